@@ -1,0 +1,58 @@
+-- From a chain of tests to the answer of a call: what the contract of a call asks, once for every kind of answer. Assumes nothing.
+use Prim.Native.Nat.{ℕ}
+use mathlib.Core.Path.{_≡_, refl, sym, _∙_, ap, subst}
+use mathlib.Core.List.{List}
+use lib.IntN.{ℤ}
+use lib.Ieee.{Float}
+use Rattle.units.specs.declared.BaseEnergy.{BaseEnergy}
+use Rattle.units.specs.declared.Refusal.{Refusal}
+use Rattle.units.specs.declared.Check.{Check}
+use Rattle.units.specs.declared.Check.the-variants.{Passed, Refused}
+use Rattle.units.specs.declared.BaseEnergyAnswer.{BaseEnergyAnswer}
+use Rattle.units.specs.declared.BaseEnergyAnswer.the-variants.{Found, Refused as BaseEnergy·Refused}
+use Rattle.units.specs.declared.EnergyAnswer.{EnergyAnswer}
+use Rattle.units.specs.declared.EnergyAnswer.the-variants.{Energy, Refused as Energy·Refused}
+use Rattle.units.specs.declared.HundredthsAnswer.{HundredthsAnswer}
+use Rattle.units.specs.declared.HundredthsAnswer.the-variants.{Hundredths, Refused as Hundredths·Refused}
+use Rattle.units.specs.Refusals.{Verdict, passes, refuses, refusal, check, Prints}
+use Rattle.units.specs.Answers.{baseEnergyAnswer, energyAnswer, hundredthsAnswer, baseEnergyRefusal, energyRefusal, hundredthsRefusal}
+use Rattle.units.proofs.Verdicts.{Tabled, prints}
+
+-- A kind of answer: how a verdict becomes one, the case of a refusal, and the refusal read off again.
+pub record Answering (A : Type 0) (answer : Verdict → A) (refusedAs : Refusal → A) (refusalIn : A → Check) : Type 0 where
+  pub refuses-so : (number : ℕ) (values : List ℕ) → answer (refuses number values) ≡ refusedAs (refusal number values)
+  pub reads-back : (v : Verdict) → refusalIn (answer v) ≡ check v
+
+module _ {A : Type 0} {answer : Verdict → A} {refusedAs : Refusal → A} {refusalIn : A → Check} (k : Answering A answer refusedAs refusalIn) where
+  -- a refusal of the tests is the answer's
+  pub refused : {x : Check} {r : Refusal} (v : Verdict) → x ≡ check v → x ≡ Refused r → refusedAs r ≡ answer v
+  refused passes e f = cc
+  refused {r = r} (refuses number values) e f = same r (cc) ∙ sym (k .refuses-so number values)
+    where
+      same : (q : Refusal) → q ≡ refusal number values → refusedAs q ≡ refusedAs (refusal number values)
+      same q h = ap refusedAs h
+
+  -- an answer that is what the tests and the value make prints as the contract asks
+  pub given : {r : A} (v : Verdict) → Tabled v → r ≡ answer v → Prints (refusalIn r) v × (r ≡ answer v)
+  given {r} v t e = (subst (λ (c : Check). Prints c v) (sym (ap refusalIn e ∙ k .reads-back v)) (prints v t), e)
+
+pub base-energy : (energy : BaseEnergy) → Answering BaseEnergyAnswer (λ v. baseEnergyAnswer v energy) BaseEnergy·Refused baseEnergyRefusal
+base-energy energy = record { refuses-so = λ number values. refl; reads-back = reads }
+  where
+    reads : (v : Verdict) → baseEnergyRefusal (baseEnergyAnswer v energy) ≡ check v
+    reads passes = refl
+    reads (refuses number values) = refl
+
+pub an-energy : (energy : Float) → Answering EnergyAnswer (λ v. energyAnswer v energy) Energy·Refused energyRefusal
+an-energy energy = record { refuses-so = λ number values. refl; reads-back = reads }
+  where
+    reads : (v : Verdict) → energyRefusal (energyAnswer v energy) ≡ check v
+    reads passes = refl
+    reads (refuses number values) = refl
+
+pub in-hundredths : (z : ℤ) → Answering HundredthsAnswer (λ v. hundredthsAnswer v z) Hundredths·Refused hundredthsRefusal
+in-hundredths z = record { refuses-so = λ number values. refl; reads-back = reads }
+  where
+    reads : (v : Verdict) → hundredthsRefusal (hundredthsAnswer v z) ≡ check v
+    reads passes = refl
+    reads (refuses number values) = refl

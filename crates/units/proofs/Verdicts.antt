@@ -1,0 +1,68 @@
+-- How a chain of tests is followed through the code, and that an answer prints what the tests came to. Assumes nothing.
+use Prim.Native.Nat.{ℕ, _≤_}
+use mathlib.Core.Path.{_≡_, refl, ap, sym, _∙_}
+use mathlib.Core.Bool.{Bool, true, false, cond}
+use mathlib.Core.List.{List, [], _∷_}
+use native.Mathlib.Omega.{arith}
+use lib.Dec.{eqb}
+use lib.ListN.{length, getD, take}
+use Rattle.units.specs.declared.Refusal.{Refusal}
+use Rattle.units.specs.declared.Check.{Check}
+use Rattle.units.specs.declared.Check.the-variants.{Passed, Refused}
+use Rattle.units.specs.Refusals.{Verdict, passes, refuses, refuseIf, _▷_, refusal, check, valueCount, Prints}
+
+-- a first test that refused decides the chain, and one that passed leaves it to the rest
+pub refused-first : {x : Check} {r : Refusal} (v w : Verdict) → x ≡ check v → x ≡ Refused r → Refused r ≡ check (v ▷ w)
+refused-first passes w e f = cc
+refused-first (refuses number values) w e f = cc
+
+pub passed : {x : Check} (v : Verdict) → x ≡ check v → x ≡ Passed → v ≡ passes
+passed passes e f = refl
+passed (refuses number values) e f = cc
+
+pub passed-first : {x : Check} (v w : Verdict) → x ≡ check v → x ≡ Passed → v ▷ w ≡ w
+passed-first v w e f = rw (passed v e f)
+
+-- a test that passed has found no fault
+pub no-fault : (b : Bool) (number : ℕ) (values : List ℕ) → refuseIf b number values ≡ passes → b ≡ false
+no-fault true number values e = cc
+no-fault false number values e = refl
+
+-- where a chain passes, so does each of its tests
+pub first-passes : (v w : Verdict) → v ▷ w ≡ passes → v ≡ passes
+first-passes passes w e = refl
+first-passes (refuses number values) w e = e
+
+pub rest-passes : (v w : Verdict) → v ▷ w ≡ passes → w ≡ passes
+rest-passes passes w e = e
+rest-passes (refuses number values) w e = cc
+
+-- a verdict has as many values as the table has beside its number
+abbrev pub Tabled : Verdict → Type 0
+Tabled passes = Unit {0}
+Tabled (refuses number values) = length values ≡ valueCount number
+
+pub tabled-if : (b : Bool) (number : ℕ) (values : List ℕ) → length values ≡ valueCount number → Tabled (refuseIf b number values)
+tabled-if true number values e = e
+tabled-if false number values e = tt
+
+pub tabled-then : (v w : Verdict) → Tabled v → Tabled w → Tabled (v ▷ w)
+tabled-then passes w t u = u
+tabled-then (refuses number values) w t u = t
+
+at-most-two : (b c : Bool) → cond b 2 (cond c 1 0) ≤ 2
+at-most-two true c = omega arith
+at-most-two false true = omega arith
+at-most-two false false = omega arith
+
+-- the values of a record that was made of as many values as its number has
+values-back : (values : List ℕ) (n : ℕ) → length values ≡ n → n ≤ 2 → take n (getD values 0 0 ∷ getD values 1 0 ∷ []) ≡ values
+values-back [] n e h = rw (← e)
+values-back (a ∷ []) n e h = rw (← e)
+values-back (a ∷ b ∷ []) n e h = rw (← e)
+values-back (a ∷ b ∷ c ∷ values) n e h = absurd (omega arith)
+
+pub prints : (v : Verdict) → Tabled v → Prints (check v) v
+prints passes t = record { number = refl; values = refl }
+prints (refuses number values) t =
+    record { number = refl; values = values-back values (valueCount number) t (at-most-two (eqb number 11) (eqb number 14)) }

@@ -1,0 +1,62 @@
+-- Refusals as document 01 prints them, a number and its values, and the order in which tests refuse. Assumes nothing.
+use Prim.Native.Nat.{ℕ}
+use mathlib.Core.Path.{_≡_}
+use mathlib.Core.Bool.{Bool, true, false, cond}
+use mathlib.Core.List.{List, [], _∷_}
+use lib.Dec.{eqb}
+use lib.ListN.{getD, take}
+use Rattle.units.specs.declared.Refusal.{Refusal}
+use Rattle.units.specs.declared.Check.{Check}
+use Rattle.units.specs.declared.Check.the-variants.{Passed, Refused}
+
+-- What a test of the input comes to: it passes, or it refuses with a number and values.
+pub data Verdict : Type 0 where
+  passes : Verdict
+  refuses : (number : ℕ) → (values : List ℕ) → Verdict
+
+-- refused with this number and these values exactly where the fault is there
+abbrev pub refuseIf : Bool → ℕ → List ℕ → Verdict
+refuseIf true number values = refuses number values
+refuseIf false number values = passes
+
+-- one test after the other: the first that refuses counts
+infixr 5 _▷_
+abbrev pub _▷_ : Verdict → Verdict → Verdict
+passes ▷ w = w
+refuses number values ▷ w = refuses number values
+
+-- the number of a verdict, 0 where it passes, and its values
+abbrev pub numberIn : Verdict → ℕ
+numberIn passes = 0
+numberIn (refuses number values) = number
+
+abbrev pub valuesIn : Verdict → List ℕ
+valuesIn passes = []
+valuesIn (refuses number values) = values
+
+-- the record of a refusal, unused values 0
+abbrev pub refusal : ℕ → List ℕ → Refusal
+refusal number values = record { number = number; first = getD values 0 0; second = getD values 1 0 }
+
+-- a verdict as the code hands it on
+abbrev pub check : Verdict → Check
+check passes = Passed
+check (refuses number values) = Refused (refusal number values)
+
+-- how many values stand beside a number in document 01's table
+abbrev pub valueCount : ℕ → ℕ
+valueCount number = cond (eqb number 11) 2 (cond (eqb number 14) 1 0)
+
+-- the paper's number and values of what the code hands on
+abbrev pub numberOf : Check → ℕ
+numberOf Passed = 0
+numberOf (Refused r) = r .number
+
+abbrev pub valuesOf : Check → List ℕ
+valuesOf Passed = []
+valuesOf (Refused r) = take (valueCount (r .number)) (r .first ∷ r .second ∷ [])
+
+-- What a caller reads off an answer, the paper's number and values, is what the tests came to.
+pub record Prints (c : Check) (v : Verdict) : Type 0 where
+  pub number : numberOf c ≡ numberIn v
+  pub values : valuesOf c ≡ valuesIn v

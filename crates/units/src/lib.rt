@@ -1,0 +1,64 @@
+// What every part passes along: a base energy, a refusal, the answers; and the temperature.
+ghost use mathlib.Core.Path.{_≡_};
+ghost use Rattle.units.specs.Refusals.{check};
+ghost use Rattle.units.specs.Kelvin.{kelvinVerdict, energyAt};
+
+// ΔG at 37 °C in kcal/mol, and ΔS in kcal/(mol·K).
+pub struct BaseEnergy {
+    pub dg: f64,
+    pub ds: f64,
+}
+
+// A refusal of document 01's table: its number and its values in their order; an unused value is 0.
+pub struct Refusal {
+    pub number: u32,
+    pub first: usize,
+    pub second: usize,
+}
+
+// What a test of the input says.
+pub enum Check {
+    Passed,
+    Refused(Refusal),
+}
+
+// The answer of a call that gives a base energy.
+pub enum BaseEnergyAnswer {
+    Found(BaseEnergy),
+    Refused(Refusal),
+}
+
+// The answer of a call that gives an energy in kcal/mol.
+pub enum EnergyAnswer {
+    Energy(f64),
+    Refused(Refusal),
+}
+
+// The answer of a call that gives an energy in whole hundredths of a kcal/mol.
+pub enum HundredthsAnswer {
+    Hundredths(i32),
+    Refused(Refusal),
+}
+
+// A temperature is taken from 200 to 500 kelvin, the ends included; a NaN is outside.
+pub fn check_kelvin(kelvin: f64) -> Check
+    ensures { λ r. ⌜ r ≡ check (kelvinVerdict kelvin) ⌝ }
+{
+    if 200.0 <= kelvin {
+        if kelvin <= 500.0 {
+            return Check::Passed;
+        }
+    }
+    Check::Refused(Refusal {
+        number: 1,
+        first: 0,
+        second: 0,
+    })
+}
+
+// ΔG at a temperature: ΔG − (T − 310.15)·ΔS, each operation rounded once.
+pub fn energy_at(energy: BaseEnergy, kelvin: f64) -> f64
+    ensures { λ r. ⌜ r ≡ energyAt energy kelvin ⌝ }
+{
+    energy.dg - (kelvin - 310.15) * energy.ds
+}

@@ -1,0 +1,75 @@
+-- `utils::single::check_single` meets its contract: the chain of tests is followed link by link. Assumes nothing.
+use borrow.Author.Needs.{needs}
+use borrow.Author.Tests.{lt-ltb, le-ltb}
+use mathlib.Core.Path.{_≡_, _∙_}
+use denote.Ref.{now}
+use Rattle.units.specs.Refusals.{_▷_}
+use Rattle.utils.specs.Letters.{lengthVerdict, lettersVerdict}
+use Rattle.utils.specs.Single.{shortVerdict, singleVerdict}
+use Rattle.units.proofs.Verdicts.{refused-first, passed-first}
+use Rattle.utils.proofs.single.check_single.Statement.{statement}
+use Rattle.utils.proofs.single.check_single.Tie as tie
+
+check-length-requires : tie.Need-check-length-requires
+check-length-requires c κs = search needs
+
+enum-known-r : tie.Need-enum-known-r
+enum-known-r c = search needs
+
+returns : tie.Need-returns
+returns c =
+    let start = c .before .before .before in
+    let dna = now (start .before .before .args .dna) in
+    refused-first (lengthVerdict dna) (lettersVerdict 0 dna ▷ shortVerdict dna) (start .check-length .ensures) (c .before .r .given .1)
+
+enum-told : tie.Need-enum-told
+enum-told c = search needs
+
+check-letters-requires : tie.Need-check-letters-requires
+check-letters-requires c κs = search needs
+
+enum-known-r-2 : tie.Need-enum-known-r-2
+enum-known-r-2 c = search needs
+
+-- past the first test, and past the second
+one-passed : (c : tie.After-enum-told) → let dna = now (c .before .before .before .before .args .dna) in singleVerdict dna ≡ lettersVerdict 0 dna ▷ shortVerdict dna
+one-passed c =
+    let first = c .before .before in
+    let dna = now (first .before .before .args .dna) in
+    passed-first (lengthVerdict dna) (lettersVerdict 0 dna ▷ shortVerdict dna) (first .check-length .ensures) (c .enum-told .given .1)
+
+two-passed : (c : tie.After-enum-told2) → let dna = now (c .before .before .before .before .before .before .before .args .dna) in singleVerdict dna ≡ shortVerdict dna
+two-passed c =
+    let second = c .before .before in
+    let dna = now (second .before .before .before .before .before .args .dna) in
+    one-passed (second .before) ∙ passed-first (lettersVerdict 0 dna) (shortVerdict dna) (second .check-letters .ensures) (c .enum-told2 .given .1)
+
+returns-2 : tie.Need-returns-2
+returns-2 c =
+    let second = c .before .before .before in
+    let dna = now (second .before .before .before .before .before .args .dna) in
+    rw (one-passed (second .before)) (refused-first (lettersVerdict 0 dna) (shortVerdict dna) (second .check-letters .ensures) (c .before .r2 .given .1))
+
+enum-told-2 : tie.Need-enum-told-2
+enum-told-2 c = search needs
+
+returns-3 : tie.Need-returns-3
+returns-3 c = rw (two-passed (c .before), lt-ltb _ _ (c .if1 .taken))
+
+returns-4 : tie.Need-returns-4
+returns-4 c = rw (two-passed (c .before), le-ltb _ _ (c .if1 .left))
+
+pub check-single-spec : {M : Type 1} → statement M
+check-single-spec =
+    tie.close
+    (tie.spec
+    check-length-requires
+    enum-known-r
+    returns
+    enum-told
+    check-letters-requires
+    enum-known-r-2
+    returns-2
+    enum-told-2
+    returns-3
+    returns-4)

@@ -1,0 +1,13 @@
+// The energies of sequences: one strand with its perfect fit, or two strands written letter over letter.
+mod hundredths;
+mod letters;
+mod loops;
+mod mismatches;
+mod pair;
+mod single;
+mod steps;
+
+pub use hundredths::string_dna_hundredths;
+pub use pair::sequence_pair_str_dg_ds;
+pub use single::string_dna_delta_g;
+pub use single::string_dna_dg_ds;

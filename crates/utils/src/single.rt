@@ -1,0 +1,99 @@
+// One sequence with its perfect fit.
+ghost use mathlib.Core.Path.{_≡_};
+ghost use Prim.Native.Nat.{_-_};
+ghost use lib.ListN.{length};
+ghost use Rattle.units.specs.Refusals.{check, Prints};
+ghost use Rattle.units.specs.Answers.{baseEnergyRefusal, energyRefusal};
+ghost use Rattle.utils.specs.Single.{stepsSum, singleEnergy, singleVerdict, singleAtVerdict, stringDnaDgDs, stringDnaDeltaG};
+use crate::letters::DnaNucleotideBase;
+use crate::letters::check_length;
+use crate::letters::check_letters;
+use crate::steps::add_energy;
+use crate::steps::dg_ds;
+use crate::steps::no_energy;
+use crate::steps::start;
+use units::BaseEnergy;
+use units::BaseEnergyAnswer;
+use units::Check;
+use units::EnergyAnswer;
+use units::Refusal;
+use units::check_kelvin;
+use units::energy_at;
+
+// The sum of all steps, from left to right.
+fn single_sequence_dg_ds(dna: &[u8]) -> BaseEnergy
+    ensures { λ r. ⌜ r ≡ stepsSum (now (dna .entry)) (length (now (dna .entry)) - 1) ⌝ }
+{
+    let mut sum = no_energy();
+    let mut i = 0;
+    while i + 1 < dna.len() {
+        let step = dg_ds(
+            DnaNucleotideBase::from(dna[i]),
+            DnaNucleotideBase::from(dna[i + 1]),
+        );
+        sum = add_energy(step, sum);
+        i += 1;
+    }
+    sum
+}
+
+// What is refused of one sequence: over 256 letters, a bad letter, under 2 letters.
+pub fn check_single(dna: &[u8]) -> Check
+    ensures { λ r. ⌜ r ≡ check (singleVerdict (now (dna .entry))) ⌝ }
+{
+    match check_length(dna) {
+        Check::Refused(r) => return Check::Refused(r),
+        Check::Passed => (),
+    }
+    match check_letters(dna, 0) {
+        Check::Refused(r) => return Check::Refused(r),
+        Check::Passed => (),
+    }
+    if dna.len() < 2 {
+        return Check::Refused(Refusal {
+            number: 12,
+            first: 0,
+            second: 0,
+        });
+    }
+    Check::Passed
+}
+
+// The energy of a sequence: its steps, then the start term.
+fn single_energy(dna: &[u8]) -> BaseEnergy
+    ensures { λ r. ⌜ r ≡ singleEnergy (now (dna .entry)) ⌝ }
+{
+    add_energy(single_sequence_dg_ds(dna), start())
+}
+
+// ΔG and ΔS of a sequence with its reverse complement.
+pub fn string_dna_dg_ds(dna: &[u8]) -> BaseEnergyAnswer
+    ensures refusal { λ r. ⌜ Prints (baseEnergyRefusal r) (singleVerdict (now (dna .entry))) ⌝ }
+    ensures answer { λ r. ⌜ r ≡ stringDnaDgDs (now (dna .entry)) ⌝ }
+{
+    match check_single(dna) {
+        Check::Refused(r) => BaseEnergyAnswer::Refused(r),
+        Check::Passed => BaseEnergyAnswer::Found(single_energy(dna)),
+    }
+}
+
+// What is refused of one sequence at a temperature, which is tested first.
+fn check_single_at(dna: &[u8], kelvin: f64) -> Check
+    ensures { λ r. ⌜ r ≡ check (singleAtVerdict (now (dna .entry)) kelvin) ⌝ }
+{
+    match check_kelvin(kelvin) {
+        Check::Refused(r) => Check::Refused(r),
+        Check::Passed => check_single(dna),
+    }
+}
+
+// ΔG of a sequence with its reverse complement at a temperature in kelvin.
+pub fn string_dna_delta_g(dna: &[u8], kelvin: f64) -> EnergyAnswer
+    ensures refusal { λ r. ⌜ Prints (energyRefusal r) (singleAtVerdict (now (dna .entry)) kelvin) ⌝ }
+    ensures answer { λ r. ⌜ r ≡ stringDnaDeltaG (now (dna .entry)) kelvin ⌝ }
+{
+    match check_single_at(dna, kelvin) {
+        Check::Refused(r) => EnergyAnswer::Refused(r),
+        Check::Passed => EnergyAnswer::Energy(energy_at(single_energy(dna), kelvin)),
+    }
+}
