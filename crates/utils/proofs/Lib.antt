@@ -1,7 +1,3 @@
-pub mod Tests
-pub mod FirstBad
-pub mod Tables
-pub mod TabledLengths
 pub mod Sums
 pub mod Refused
 pub mod Signed

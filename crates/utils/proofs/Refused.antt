@@ -12,7 +12,7 @@ use Rattle.units.specs.Kelvin.{kelvinVerdict, inKelvinRange}
 use Rattle.units.proofs.Verdicts.{Tabled, tabled-if, tabled-then, no-fault, first-passes, rest-passes}
 use Rattle.utils.specs.declared.pair.PairSum.{PairSum}
 use Rattle.utils.specs.declared.pair.PairSum.the-variants.{Going, NoLoopValue}
-use Rattle.utils.specs.Letters.{lengthVerdict, lettersVerdict, firstBad}
+use Rattle.bases.specs.Letters.{lengthVerdict, lettersVerdict, firstBad}
 use Rattle.utils.specs.Single.{shortVerdict, singleVerdict, singleAtVerdict}
 use Rattle.utils.specs.Pair.{unequalVerdict, pairLetters, pairTests, loopsVerdict, pairSum, pairVerdict}
 

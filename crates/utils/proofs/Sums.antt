@@ -8,14 +8,14 @@ use native.Mathlib.Numerals.{add-one}
 use native.Mathlib.Omega.{arith}
 use lib.Dec.{ltb}
 use Rattle.units.specs.declared.BaseEnergy.{BaseEnergy}
-use Rattle.utils.specs.declared.letters.DnaNucleotideBase.{DnaNucleotideBase}
-use Rattle.utils.specs.declared.loops.LoopPenalty.{LoopPenalty}
-use Rattle.utils.specs.declared.loops.LoopPenalty.the-variants.{Value, NoValue}
+use Rattle.bases.specs.declared.letters.DnaNucleotideBase.{DnaNucleotideBase}
+use Rattle.bases.specs.declared.loops.LoopPenalty.{LoopPenalty}
+use Rattle.bases.specs.declared.loops.LoopPenalty.the-variants.{Value, NoValue}
 use Rattle.utils.specs.declared.pair.PairSum.{PairSum}
 use Rattle.utils.specs.declared.pair.PairSum.the-variants.{Going, NoLoopValue}
-use Rattle.utils.specs.Letters.{baseAt}
-use Rattle.utils.specs.Steps.{dgDs, addEnergy, stepOf}
-use Rattle.utils.specs.Loops.{loopPenalty}
+use Rattle.bases.specs.Letters.{baseAt}
+use Rattle.bases.specs.Steps.{dgDs, addEnergy, stepOf}
+use Rattle.bases.specs.Loops.{loopPenalty}
 use Rattle.utils.specs.Single.{stepsSum}
 use Rattle.utils.specs.Hundredths.{stepsHundredths}
 use Rattle.utils.specs.Pair.{closedBy, matched, bothMatch, afterWindow, badIn, windowsSum}

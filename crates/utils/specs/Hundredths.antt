@@ -6,10 +6,10 @@ use lib.IntN.{ℤ, pos, _-ℤ_}
 use lib.ListN.{length}
 use Rattle.units.specs.declared.HundredthsAnswer.{HundredthsAnswer}
 use Rattle.units.specs.Answers.{hundredthsAnswer}
-use Rattle.utils.specs.declared.letters.DnaNucleotideBase.{DnaNucleotideBase}
-use Rattle.utils.specs.declared.letters.DnaNucleotideBase.the-variants.{A, T, G, C}
-use Rattle.utils.specs.Letters.{baseAt}
-use Rattle.utils.specs.Steps.{stepOf, startHundredths}
+use Rattle.bases.specs.declared.letters.DnaNucleotideBase.{DnaNucleotideBase}
+use Rattle.bases.specs.declared.letters.DnaNucleotideBase.the-variants.{A, T, G, C}
+use Rattle.bases.specs.Letters.{baseAt}
+use Rattle.bases.specs.Steps.{stepOf, startHundredths}
 use Rattle.utils.specs.Single.{singleVerdict}
 
 -- whether a base is A or T

@@ -9,15 +9,15 @@ use Rattle.units.specs.declared.BaseEnergy.{BaseEnergy}
 use Rattle.units.specs.declared.BaseEnergyAnswer.{BaseEnergyAnswer}
 use Rattle.units.specs.Refusals.{Verdict, passes, refuses, refuseIf, _▷_}
 use Rattle.units.specs.Answers.{baseEnergyAnswer}
-use Rattle.utils.specs.declared.letters.DnaNucleotideBase.{DnaNucleotideBase}
-use Rattle.utils.specs.declared.loops.LoopPenalty.{LoopPenalty}
-use Rattle.utils.specs.declared.loops.LoopPenalty.the-variants.{Value, NoValue}
+use Rattle.bases.specs.declared.letters.DnaNucleotideBase.{DnaNucleotideBase}
+use Rattle.bases.specs.declared.loops.LoopPenalty.{LoopPenalty}
+use Rattle.bases.specs.declared.loops.LoopPenalty.the-variants.{Value, NoValue}
 use Rattle.utils.specs.declared.pair.PairSum.{PairSum}
 use Rattle.utils.specs.declared.pair.PairSum.the-variants.{Going, NoLoopValue}
-use Rattle.utils.specs.Letters.{baseAt, goodMatch, lengthVerdict, lettersVerdict}
-use Rattle.utils.specs.Steps.{dgDs, addEnergy, noEnergy}
-use Rattle.utils.specs.Mismatches.{singleMismatchPenalty}
-use Rattle.utils.specs.Loops.{loopPenalty}
+use Rattle.bases.specs.Letters.{baseAt, goodMatch, lengthVerdict, lettersVerdict}
+use Rattle.bases.specs.Steps.{dgDs, addEnergy, noEnergy}
+use Rattle.bases.specs.Mismatches.{singleMismatchPenalty}
+use Rattle.bases.specs.Loops.{loopPenalty}
 
 -- a number added to ΔG alone
 abbrev pub addToDg : BaseEnergy → Float → BaseEnergy

@@ -7,9 +7,9 @@ ghost use Rattle.units.specs.Refusals.{Prints};
 ghost use Rattle.units.specs.Answers.{hundredthsRefusal};
 ghost use Rattle.utils.specs.Single.{singleVerdict};
 ghost use Rattle.utils.specs.Hundredths.{isWeak, endTerm, stepsHundredths, singleHundredths, stringDnaHundredths};
-use crate::letters::DnaNucleotideBase;
+use bases::letters::DnaNucleotideBase;
 use crate::single::check_single;
-use crate::steps::step_hundredths;
+use bases::steps::step_hundredths;
 use units::Check;
 use units::HundredthsAnswer;
 

@@ -1,11 +1,7 @@
 // The energies of sequences: one strand with its perfect fit, or two strands written letter over letter.
 mod hundredths;
-mod letters;
-mod loops;
-mod mismatches;
 mod pair;
 mod single;
-mod steps;
 
 pub use hundredths::string_dna_hundredths;
 pub use pair::sequence_pair_str_dg_ds;

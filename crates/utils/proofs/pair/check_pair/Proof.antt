@@ -4,7 +4,7 @@ use denote.Ref.{now}
 use borrow.Author.Needs.{needs}
 use Rattle.units.proofs.Verdicts.{refused-first, passed-first}
 use Rattle.units.specs.Refusals.{_▷_}
-use Rattle.utils.specs.Letters.{lengthVerdict}
+use Rattle.bases.specs.Letters.{lengthVerdict}
 use Rattle.utils.specs.Pair.{pairLetters, pairTests}
 use Rattle.utils.proofs.pair.check_pair.Statement.{statement}
 use Rattle.utils.proofs.pair.check_pair.Tie as tie

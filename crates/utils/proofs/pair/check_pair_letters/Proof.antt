@@ -5,7 +5,7 @@ use borrow.Author.Needs.{needs}
 use borrow.Author.Tests.{eq-eqb, ne-eqb}
 use Rattle.units.proofs.Verdicts.{refused-first, passed-first}
 use Rattle.units.specs.Refusals.{_▷_}
-use Rattle.utils.specs.Letters.{lettersVerdict}
+use Rattle.bases.specs.Letters.{lettersVerdict}
 use Rattle.utils.specs.Pair.{unequalVerdict, pairLetters}
 use Rattle.utils.proofs.pair.check_pair_letters.Statement.{statement}
 use Rattle.utils.proofs.pair.check_pair_letters.Tie as tie

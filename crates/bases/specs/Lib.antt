@@ -1,0 +1,4 @@
+pub mod Letters
+pub mod Steps
+pub mod Mismatches
+pub mod Loops
