@@ -1,0 +1,65 @@
+"""Reads and writes case files: docs/CASES.md in Python. Knows nothing of the calls."""
+
+import struct
+
+PLAIN = frozenset(range(0x21, 0x7F)) - frozenset(b"%,")
+HEX = frozenset(b"0123456789abcdef")
+
+
+class Unreadable(Exception):
+    """The line is no case, or a field is missing or not of its kind."""
+
+
+def write_text(raw):
+    """Bytes as a text value."""
+    return "".join(chr(b) if b in PLAIN else f"%{b:02x}" for b in raw)
+
+
+def write_float(value):
+    return struct.pack(">d", value).hex()
+
+
+def lines(data):
+    """The lines of a case file that are cases, as bytes."""
+    return [line for line in data.split(b"\n") if line and not line.startswith(b"#")]
+
+
+def read_line(line):
+    """A case's call and its fields; where a key stands twice the first one counts."""
+    call, *words = line.split(b" ")
+    fields = {}
+    for word in words:
+        key, equals, value = word.partition(b"=")
+        if not equals:
+            raise Unreadable
+        fields.setdefault(key, value)
+    return call.decode("latin-1"), fields
+
+
+def read_text(fields, key):
+    value, raw, at = _value(fields, key), bytearray(), 0
+    while at < len(value):
+        if value[at] in PLAIN:
+            raw.append(value[at])
+            at += 1
+        else:
+            digits = value[at + 1 : at + 3]
+            if value[at] != ord("%") or len(digits) != 2 or not HEX.issuperset(digits):
+                raise Unreadable
+            raw.append(int(digits, 16))
+            at += 3
+    return bytes(raw)
+
+
+def read_float(fields, key):
+    value = _value(fields, key)
+    if len(value) != 16 or not HEX.issuperset(value):
+        raise Unreadable
+    return struct.unpack(">d", bytes.fromhex(value.decode()))[0]
+
+
+def _value(fields, key):
+    try:
+        return fields[key.encode()]
+    except KeyError:
+        raise Unreadable from None
