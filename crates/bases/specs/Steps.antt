@@ -1,5 +1,7 @@
 -- The values of a step, two neighbouring letters read 5'→3', as printed, and the start term. Assumes nothing.
 use Prim.Native.Nat.{ℕ, _+_, _*_}
+use mathlib.Core.Bool.{Bool, _||_}
+use lib.Dec.{eqb}
 use lib.Ieee.{Float, binary64, add}
 use Rattle.units.specs.declared.BaseEnergy.{BaseEnergy}
 use Rattle.units.specs.Decimals.{plus, minus}
@@ -38,6 +40,10 @@ stepOf C C = step 184 190 199
 -- the place of a step in a table with a row for each first letter, in the Rust's order
 abbrev pub stepPlace : DnaNucleotideBase → DnaNucleotideBase → ℕ
 stepPlace a b = indexOf a * 4 + indexOf b
+
+-- the steps whose ΔS the Rust has otherwise than the paper: TA, GG and CC
+abbrev pub recorded : DnaNucleotideBase → DnaNucleotideBase → Bool
+recorded a b = eqb (stepPlace a b) (stepPlace T A) || (eqb (stepPlace a b) (stepPlace G G) || eqb (stepPlace a b) (stepPlace C C))
 
 -- ΔG and ΔS of a step as the Rust has them: the printed decimals, each rounded once
 unfoldable pub dgDs : DnaNucleotideBase → DnaNucleotideBase → BaseEnergy

@@ -1,3 +1,5 @@
 pub mod Sums
 pub mod Refused
 pub mod Signed
+pub mod Unique
+pub mod Starred

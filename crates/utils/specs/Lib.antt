@@ -1,3 +1,4 @@
 pub mod Single
 pub mod Pair
 pub mod Hundredths
+pub mod Starred
