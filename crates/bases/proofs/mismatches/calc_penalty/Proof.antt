@@ -23,10 +23,10 @@ index-requires-2 : tie.Need-index-requires-2
 index-requires-2 c κs = search needs
 
 add-place : tie.Need-add-place
-add-place c = omega (arith, index-lt (c .before .before .args .prior), index-lt (c .before .before .args .x))
+add-place c = let a = c .before .before .args in omega (arith, index-lt (a .prior), index-lt (a .x), index-lt (a .y))
 
 mul-place-2 : tie.Need-mul-place-2
-mul-place-2 c = omega (arith, index-lt (c .before .before .args .prior), index-lt (c .before .before .args .x))
+mul-place-2 c = let a = c .before .before .args in omega (arith, index-lt (a .prior), index-lt (a .x), index-lt (a .y))
 
 index-requires-3 : tie.Need-index-requires-3
 index-requires-3 c κs = search needs

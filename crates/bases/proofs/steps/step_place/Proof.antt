@@ -9,7 +9,7 @@ index-requires : tie.Need-index-requires
 index-requires c κs = search needs
 
 mul-result : tie.Need-mul-result
-mul-result c = omega (arith, index-lt (c .before .args .a))
+mul-result c = omega (arith, index-lt (c .before .args .a), index-lt (c .before .args .b))
 
 index-requires-2 : tie.Need-index-requires-2
 index-requires-2 c κs = search needs
