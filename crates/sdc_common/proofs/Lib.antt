@@ -1,0 +1,2 @@
+pub mod BeforeStars
+pub mod Lists
