@@ -1,19 +1,18 @@
 -- Laws of a slice that is filled from its front with the values of items: the turns of a loop that reads them one by one. Assumes nothing.
 use Prim.Native.Nat.{ℕ, suc, _+_, _-_, _≤_, _<_}
-use mathlib.Core.Bool.{Bool, true, false, cond, _&&_}
-use mathlib.Core.List.{List, [], _∷_, _++_, append-assoc, append-nil}
+use mathlib.Core.Bool.{Bool, true, false}
+use mathlib.Core.List.{List, [], _∷_, _++_, append-nil}
 use mathlib.Core.Path.{_≡_, refl, sym, ap, _∙_}
 use native.Mathlib.Numerals.{add-one}
 use native.Mathlib.Omega.{arith}
 use borrow.Author.Tests.{le-leb, lt-leb}
-use lib.Dec.{leb}
 use lib.ListN.{length, getD, take, drop, set, length-append, length-set, drop-of-length-le}
 use lib.Seq.{drop-cons, set-at, append-snoc, take-all, take-at}
 use Rattle.case_text.specs.Places.{placeOf, parts}
 use Rattle.case_text.specs.Fields.{rest}
 use Rattle.case_text.specs.Lists.{items, all, values, counted, front}
 use Rattle.case_text.specs.declared.kinds.Count.{Count}
-use Rattle.case_text.proofs.Cuts.{parts-head, part-at, none-after, more-after, onward-at}
+use Rattle.case_text.proofs.Cuts.{part-at, none-after, more-after}
 use Rattle.case_text.proofs.Worth.{and-false}
 
 -- n of the items ws have been read, and the ones that are left are given

@@ -1,16 +1,15 @@
 -- Laws of a text's signs: where the first one ends, and what a sign is read as. Assumes nothing.
 use Prim.Native.Nat.{ℕ, suc, _+_, _-_, _≤_, _<_}
-use mathlib.Core.Bool.{true, false, not, _&&_}
+use mathlib.Core.Bool.{Bool, true, false, cond, not, _&&_}
 use mathlib.Core.List.{List, [], _∷_}
-use mathlib.Core.Path.{_≡_, refl, sym, ap, _∙_}
-use native.Mathlib.Numerals.{add-one}
+use mathlib.Core.Path.{_≡_, refl, ap, _∙_}
 use native.Mathlib.Omega.{arith}
 use borrow.Author.Tests.{eq-eqb, ne-eqb, leb-true}
 use lib.Dec.{eqb, leb, lit<, lit≤}
 use lib.ListN.{length, getD, take, drop, length-drop, drop-of-length-le}
 use lib.Seq.{drop-cons, drop-drop, take-length, drop-length}
-use Rattle.case_text.specs.Digits.{wholeOf}
-use Rattle.case_text.specs.Text.{signs, isPlain, isSign, byteOf, plainOf, signOf, SignEnds}
+use Rattle.case_text.specs.Digits.{allDigits, worth, wholeOf}
+use Rattle.case_text.specs.Text.{signs, isPlain, isSign, byteOf, plainOf, hiddenOf, signOf, SignEnds}
 use Rattle.case_text.specs.declared.kinds.Number.{Number}
 use Rattle.case_text.proofs.Worth.{and-left, and-right, worth-bound, read-of, read-none, whole-16}
 
@@ -78,12 +77,21 @@ sign-other (x ∷ y ∷ []) n m = refl
 sign-other (x ∷ y ∷ z ∷ []) n m = absurd (m refl)
 sign-other (x ∷ y ∷ z ∷ a ∷ more) n m = refl
 
-pub sign-three : (part : List ℕ) → length part ≡ 3 → wholeOf 16 (take (length part - 1) (drop 1 part)) ≡ signOf part
+hidden-is : (t : Bool) (b : ℕ) → hiddenOf (cond t (Number.Of b) Number.Unreadable) ≡ cond (t && not (isPlain b)) (Number.Of b) Number.Unreadable
+unfolding hiddenOf
+hidden-is true b = go (isPlain b)
+  where
+    go : (p : Bool) → cond p Number.Unreadable (Number.Of b) ≡ cond (not p) (Number.Of b) Number.Unreadable
+    go true = refl
+    go false = refl
+hidden-is false b = refl
+
+pub sign-three : (part : List ℕ) → length part ≡ 3 → hiddenOf (wholeOf 16 (take (length part - 1) (drop 1 part))) ≡ signOf part
 unfolding signOf isSign byteOf
 sign-three [] e = absurd (omega arith)
 sign-three (x ∷ []) e = absurd (omega arith)
 sign-three (x ∷ y ∷ []) e = absurd (omega arith)
-sign-three (x ∷ y ∷ z ∷ []) e = whole-16 (y ∷ z ∷ []) (lit≤ tt)
+sign-three (x ∷ y ∷ z ∷ []) e = ap hiddenOf (whole-16 (y ∷ z ∷ []) (lit≤ tt)) ∙ hidden-is (allDigits 16 (y ∷ z ∷ [])) (worth 16 0 (y ∷ z ∷ []))
 sign-three (x ∷ y ∷ z ∷ a ∷ more) e = absurd (omega arith)
 
 pub sign-of : (part : List ℕ) (b : ℕ) → signOf part ≡ Number.Of b → (isSign part ≡ true) × (byteOf part ≡ b)
@@ -107,5 +115,6 @@ unfolding isSign byteOf
 sign-small [] e = lit< tt
 sign-small (x ∷ []) e = plain-small x e
 sign-small (x ∷ y ∷ []) e = let z : _≡_ {A = ℕ} 0 1 = cc in absurd (omega arith)
-sign-small (x ∷ y ∷ z ∷ []) e = worth-bound 16 0 (y ∷ z ∷ []) e
+sign-small (x ∷ y ∷ z ∷ []) e =
+    worth-bound 16 0 (y ∷ z ∷ []) (and-left (allDigits 16 (y ∷ z ∷ [])) (not (isPlain (worth 16 0 (y ∷ z ∷ [])))) e)
 sign-small (x ∷ y ∷ z ∷ a ∷ more) e = let q : _≡_ {A = ℕ} 0 1 = cc in absurd (omega arith)

@@ -1,14 +1,13 @@
 -- Laws of the search for a field among a line's words. Assumes nothing.
-use Prim.Native.Nat.{ℕ, suc, _+_, _-_, _≤_, _<_, zero-le}
-use mathlib.Core.Bool.{Bool, true, false, cond}
+use Prim.Native.Nat.{ℕ, _+_, _-_, _≤_, _<_, zero-le}
+use mathlib.Core.Bool.{true, false}
 use mathlib.Core.List.{List, [], _∷_}
 use mathlib.Core.Path.{_≡_, refl, sym, ap, _∙_}
 use native.Mathlib.Omega.{arith}
 use borrow.Author.Tests.{lt-ltb, le-ltb}
-use lib.Dec.{ltb}
 use lib.ListN.{length, take, drop}
-use Rattle.case_text.specs.Places.{before, placeOf, parts, Onward}
-use Rattle.case_text.specs.Fields.{rest, words, hasKey, valueIn, anyField, firstField, FieldAt}
+use Rattle.case_text.specs.Places.{placeOf, parts}
+use Rattle.case_text.specs.Fields.{rest, words, hasKey, anyField, firstField, FieldAt}
 use Rattle.case_text.proofs.Cuts.{place-first, onward-at, parts-rest, part-at, none-after, more-after}
 
 -- the search has come to a place: no field before it has the key, and a word starts after it, where it is not the line's end

@@ -14,7 +14,7 @@ unfoldable pub written : List ℕ → ℕ → List ℕ → List ℕ
 written out at text = paste out at text (min (length text) (length out - at))
 
 -- the place after the text, the slice's end where there is no room for all of it
-unfoldable pub placeAfter : List ℕ → ℕ → List ℕ → ℕ
+abbrev pub placeAfter : List ℕ → ℕ → List ℕ → ℕ
 placeAfter out at text = min (length out) (at + length text)
 
 -- the decimal digits of n, of which there are at most k + 1, without a zero in front

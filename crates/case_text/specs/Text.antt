@@ -19,17 +19,22 @@ signs (x ∷ y ∷ z ∷ more) = cond (eqb x 37) ((x ∷ y ∷ z ∷ []) ∷ sig
 unfoldable pub isPlain : ℕ → Bool
 isPlain b = leb 33 b && leb b 126 && not (eqb b 37) && not (eqb b 44)
 
--- a sign that stands for a byte: a plain byte, or `%` and two hexadecimal digits
+-- a sign that stands for a byte: a plain byte, or `%` and two hexadecimal digits for a byte that is not plain
 unfoldable pub isSign : List ℕ → Bool
 isSign [] = false
 isSign (x ∷ []) = isPlain x
 isSign (x ∷ y ∷ []) = false
-isSign (x ∷ y ∷ z ∷ []) = allDigits 16 (y ∷ z ∷ [])
+isSign (x ∷ y ∷ z ∷ []) = allDigits 16 (y ∷ z ∷ []) && not (isPlain (worth 16 0 (y ∷ z ∷ [])))
 isSign (x ∷ y ∷ z ∷ a ∷ more) = false
 
 -- what a byte by itself is read as
 unfoldable pub plainOf : ℕ → Number
 plainOf b = cond (isPlain b) (Number.Of b) Number.Unreadable
+
+-- what a byte by its digits is read as
+unfoldable pub hiddenOf : Number → Number
+hiddenOf (Number.Of b) = cond (isPlain b) Number.Unreadable (Number.Of b)
+hiddenOf Number.Unreadable = Number.Unreadable
 
 -- the byte that a sign stands for
 unfoldable pub byteOf : List ℕ → ℕ

@@ -1,9 +1,9 @@
-// Text in a value: bytes that stand for themselves, and `%` with two hexadecimal digits for any byte.
+// Text in a value: bytes that stand for themselves, and `%` with two hexadecimal digits for any other.
 ghost use mathlib.Core.Path.{_≡_};
 ghost use Prim.Native.Nat.{_<_};
 ghost use lib.ListN.{length};
 ghost use Rattle.case_text.specs.Lists.{counted, values, front};
-ghost use Rattle.case_text.specs.Text.{signs, isSign, byteOf, plainOf, signOf, SignEnds};
+ghost use Rattle.case_text.specs.Text.{signs, isPlain, isSign, byteOf, plainOf, hiddenOf, signOf, SignEnds};
 use crate::digits::whole;
 use crate::kinds::Count;
 use crate::kinds::Number;
@@ -58,24 +58,49 @@ fn sign(part: &[u8]) -> Number
     if part.len() != 3 {
         return Number::Unreadable;
     }
-    whole(&part[1..], 16)
+    hidden(whole(&part[1..], 16))
 }
 
-// A byte that stands for itself: one that prints, and is no space, `%` or `,`.
+// A byte by itself stands for itself, where it may.
 fn plain(b: u8) -> Number
     ensures { λ r. ⌜ r ≡ plainOf b ⌝ }
 {
-    if b < 33 {
-        return Number::Unreadable;
+    let n = b as u64;
+    if is_plain(n) {
+        Number::Of(n)
+    } else {
+        Number::Unreadable
     }
-    if 126 < b {
-        return Number::Unreadable;
+}
+
+// A byte by its digits is one that cannot stand for itself, so that each text is written in one way.
+fn hidden(byte: Number) -> Number
+    ensures { λ r. ⌜ r ≡ hiddenOf byte ⌝ }
+{
+    match byte {
+        Number::Of(n) => {
+            if is_plain(n) {
+                Number::Unreadable
+            } else {
+                Number::Of(n)
+            }
+        }
+        Number::Unreadable => Number::Unreadable,
     }
-    if b == b'%' {
-        return Number::Unreadable;
+}
+
+// Whether a byte stands for itself: it prints, and is no space, no `%` and no comma.
+fn is_plain(n: u64) -> bool
+    ensures { λ r. ⌜ r ≡ isPlain n ⌝ }
+{
+    if n < 33 {
+        return false;
     }
-    if b == b',' {
-        return Number::Unreadable;
+    if 126 < n {
+        return false;
     }
-    Number::Of(b as u64)
+    if n == 37 {
+        return false;
+    }
+    n != 44
 }

@@ -1,7 +1,5 @@
 -- `answers::put_float` meets its contract: the digits that `io` makes of the bits are the float's text. Assumes nothing.
-use mathlib.Core.Path.{_≡_, sym, ap, _∙_}
-use mathlib.Core.Bool.{false}
-use native.Mathlib.Omega.{arith}
+use mathlib.Core.Path.{ap, _∙_}
 use Rattle.case_text.specs.Answers.{written, placeAfter}
 use Rattle.case_text.proofs.Spelling.{no-nan, float-text, nan-text}
 use borrow.Author.Needs.{needs}

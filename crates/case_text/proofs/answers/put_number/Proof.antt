@@ -1,6 +1,5 @@
 -- `answers::put_number` meets its contract: the digits that `io` makes are the number's text. Assumes nothing.
 use mathlib.Core.Path.{ap, _∙_}
-use native.Mathlib.Omega.{arith}
 use Rattle.case_text.specs.Answers.{written, placeAfter}
 use Rattle.case_text.proofs.Spelling.{number-text}
 use borrow.Author.Needs.{needs}

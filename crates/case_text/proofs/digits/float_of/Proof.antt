@@ -1,12 +1,11 @@
 -- `digits::float_of` meets its contract: its tests are those of a NaN's pattern. Assumes nothing.
 use Prim.Native.Nat.{ℕ, _/_, _%_}
-use mathlib.Core.Bool.{true, false, not}
+use mathlib.Core.Bool.{true, false}
 use mathlib.Core.Logic.{⊎-elim}
-use mathlib.Core.Path.{_≡_, refl, sym, subst, _∙_}
+use mathlib.Core.Path.{_≡_, refl, sym, _∙_}
 use borrow.Author.Needs.{needs}
 use borrow.Author.Tests.{eq-eqb, ne-eqb}
-use lib.Dec.{T}
-use lib.Ieee.{Float, nan, inf, fin, binary64, div, ofBits, ofFields, odd, nanBits, isNan}
+use lib.Ieee.{Float, nan, inf, fin, binary64, div, ofBits, nanBits, isNan}
 use lib.Ieee.Bits.{nanBits-is}
 use native.Mathlib.Omega.{arith}
 use Rattle.case_text.proofs.digits.float_of.Statement.{statement}

@@ -1,5 +1,5 @@
 -- `fields::same` meets its contract. The loop's invariant: the texts are the same where their rests from `i` on are. Assumes nothing.
-use Prim.Native.Nat.{_-_, _≤_}
+use Prim.Native.Nat.{_-_}
 use mathlib.Core.Path.{_≡_, refl, sym, _∙_}
 use lib.ListN.{length, drop}
 use Rattle.case_text.specs.Fields.{sameBytes}

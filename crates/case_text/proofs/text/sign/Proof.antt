@@ -1,5 +1,6 @@
 -- `text::sign` meets its contract: each way out is a case of the definition. Assumes nothing.
-use mathlib.Core.Path.{_∙_}
+use mathlib.Core.Path.{ap, _∙_}
+use Rattle.case_text.specs.Text.{hiddenOf}
 use Rattle.case_text.proofs.Signs.{sign-one, sign-other, sign-three}
 use borrow.Author.Needs.{needs}
 use Rattle.case_text.proofs.text.sign.Statement.{statement}
@@ -29,8 +30,14 @@ part-whole-end c = search needs
 whole-requires : tie.Need-whole-requires
 whole-requires c κs = search needs
 
+hidden-requires : tie.Need-hidden-requires
+hidden-requires c κs = search needs
+
 returns-3 : tie.Need-returns-3
-returns-3 c = c .whole .ensures ∙ sign-three (c .before .before .before .before .before .args .part .now) (c .before .before .if2 .left)
+returns-3 c =
+    let read = c .before in
+    let way = read .before .before in
+    c .hidden .ensures ∙ ap hiddenOf (read .whole .ensures) ∙ sign-three (way .before .before .before .args .part .now) (way .if2 .left)
 
 pub sign-spec : {M : Type 1} → statement M
 sign-spec =
@@ -44,4 +51,5 @@ sign-spec =
     part-whole-start
     part-whole-end
     whole-requires
+    hidden-requires
     returns-3)

@@ -1,0 +1,86 @@
+-- The definitions at small texts, computed: what docs/CASES.md says of each kind of value. Assumes nothing.
+use Prim.Native.Nat.{ℕ, _^_}
+use mathlib.Core.Bool.{true, false}
+use mathlib.Core.List.{List, [], _∷_, _++_}
+use mathlib.Core.Path.{_≡_, refl}
+use lib.Ieee.{nan, fin, ofBits, isNan}
+use lib.IntN.{pos, negsuc}
+use lib.ListN.{replicate}
+use Rattle.case_text.specs.Places.{before, longer, parts}
+use Rattle.case_text.specs.Fields.{sameBytes, callName, rest, words, hasKey, valueIn, anyField, firstField}
+use Rattle.case_text.specs.Digits.{digit, allDigits, worth, isNumber, numberOf, isFloat, floatIn, floatOf}
+use Rattle.case_text.specs.Text.{signs, isPlain, isSign, byteOf}
+use Rattle.case_text.specs.Lists.{items, all, values, counted, front}
+use Rattle.case_text.specs.Answers.{decimal, numberText, signedText, floatText}
+use Rattle.case_text.specs.declared.kinds.Count.{Count}
+use Rattle.case_text.specs.declared.kinds.FloatValue.{FloatValue}
+use Rattle.case_text.specs.declared.kinds.Number.{Number}
+
+-- `e k=1 kk k=2 j=`
+line : List ℕ
+line = 101 ∷ 32 ∷ 107 ∷ 61 ∷ 49 ∷ 32 ∷ 107 ∷ 107 ∷ 32 ∷ 107 ∷ 61 ∷ 50 ∷ 32 ∷ 106 ∷ 61 ∷ []
+
+-- the name; of two fields with the key `k` the first; the empty value of `j`; `kk` is no field
+its-name : callName line ≡ 101 ∷ []
+unfolding line before
+its-name = refl
+
+first-counts : firstField (107 ∷ []) (words line) ≡ 49 ∷ []
+unfolding line before longer parts sameBytes rest words hasKey valueIn firstField
+first-counts = refl
+
+empty-value : anyField (106 ∷ []) (words line) ≡ true
+unfolding line before longer parts sameBytes rest words hasKey anyField
+empty-value = refl
+
+no-field : anyField (107 ∷ 107 ∷ []) (words line) ≡ false
+unfolding line before longer parts sameBytes rest words hasKey anyField
+no-field = refl
+
+-- `18446744073709551615`, and one more
+most : List ℕ → List ℕ
+most last = (49 ∷ 56 ∷ 52 ∷ 52 ∷ 54 ∷ 55 ∷ 52 ∷ 52 ∷ 48 ∷ 55 ∷ 51 ∷ 55 ∷ 48 ∷ 57 ∷ 53 ∷ 53 ∷ 49 ∷ 54 ∷ 49 ∷ []) ++ last
+
+largest : numberOf (2 ^ 64) (most (53 ∷ [])) ≡ Number.Of 18446744073709551615
+unfolding most digit allDigits worth isNumber numberOf
+largest = refl
+
+too-large : numberOf (2 ^ 64) (most (54 ∷ [])) ≡ Number.Unreadable
+unfolding most digit allDigits worth isNumber numberOf
+too-large = refl
+
+-- `3ff0000000000000` is 1.0, and a NaN's bits are a NaN
+one : floatOf (51 ∷ 102 ∷ 102 ∷ replicate 13 48) ≡ FloatValue.Of (fin false 1 (pos 0))
+unfolding digit allDigits worth isFloat floatIn floatOf ofBits
+one = refl
+
+a-nan : floatOf (55 ∷ 102 ∷ 102 ∷ replicate 13 49) ≡ FloatValue.Of nan
+unfolding digit allDigits worth isFloat floatIn floatOf ofBits
+a-nan = refl
+
+-- `a%20` is two bytes; `%61` for `a` is refused, and nothing is written
+space : values isSign byteOf (signs (97 ∷ 37 ∷ 50 ∷ 48 ∷ [])) ≡ 97 ∷ 32 ∷ []
+unfolding digit allDigits worth isPlain isSign byteOf signs values
+space = refl
+
+one-way : counted isSign (signs (37 ∷ 54 ∷ 49 ∷ [])) 9 ≡ Count.Unreadable
+unfolding digit allDigits worth isPlain isSign signs all counted
+one-way = refl
+
+-- `1,2` in a slice of three, of which the last stays
+two-of-three : front (values (isNumber (2 ^ 32)) (worth 10 0) (items (49 ∷ 44 ∷ 50 ∷ []))) (7 ∷ 8 ∷ 9 ∷ []) ≡ 1 ∷ 2 ∷ 9 ∷ []
+unfolding longer parts digit allDigits worth isNumber items values front
+two-of-three = refl
+
+-- numbers as text
+zero-text : numberText 0 ≡ 48 ∷ []
+unfolding decimal numberText
+zero-text = refl
+
+minus-ten : signedText (negsuc 9) ≡ 45 ∷ 49 ∷ 48 ∷ []
+unfolding decimal numberText signedText
+minus-ten = refl
+
+nan-text : floatText nan ≡ 110 ∷ 97 ∷ 110 ∷ []
+unfolding isNan floatText
+nan-text = refl

@@ -1,0 +1,33 @@
+// The front of a slice by a count: what was read into it, or written. A count past the end gives
+// the whole slice, so that a caller has nothing to show.
+ghost use mathlib.Core.Path.{_≡_};
+ghost use lib.ListN.{take};
+use crate::answers::least;
+
+pub fn first_bytes<'a>(s: &'a [u8], n: usize) -> &'a [u8]
+    ensures { λ r. ⌜ now r ≡ take n (now (s .entry)) ⌝ }
+{
+    let k = least(n, s.len());
+    &s[..k]
+}
+
+pub fn first_small_numbers<'a>(s: &'a [u32], n: usize) -> &'a [u32]
+    ensures { λ r. ⌜ now r ≡ take n (now (s .entry)) ⌝ }
+{
+    let k = least(n, s.len());
+    &s[..k]
+}
+
+pub fn first_numbers<'a>(s: &'a [usize], n: usize) -> &'a [usize]
+    ensures { λ r. ⌜ now r ≡ take n (now (s .entry)) ⌝ }
+{
+    let k = least(n, s.len());
+    &s[..k]
+}
+
+pub fn first_floats<'a>(s: &'a [f64], n: usize) -> &'a [f64]
+    ensures { λ r. ⌜ now r ≡ take n (now (s .entry)) ⌝ }
+{
+    let k = least(n, s.len());
+    &s[..k]
+}
