@@ -1,11 +1,13 @@
-// Answer lines: text, numbers and floats, put one after the other into a lent slice. What does not
-// fit is cut off, and the next place is then the slice's end.
+// Answer lines: text, numbers and floats, put one after the other into a lent slice. Each function
+// puts what it is given at the place `at`, leaves the rest of the slice as it is, and answers the
+// next place. What does not fit is cut off, and the next place is then the slice's end: a run of
+// these calls leaves the answer, or as much of its front as has room.
 ghost use mathlib.Core.Path.{_≡_};
-ghost use Prim.Native.Nat.{min};
 ghost use lib.IntN.{natAbs};
 ghost use Rattle.case_text.specs.Answers.{written, placeAfter, numberText, signedText, floatText};
+use crate::fronts::least;
 
-// Puts `text` at the place `at` of `out`, and answers the next place.
+// Puts the bytes of `text`.
 pub fn put_text(out: &mut [u8], at: usize, text: &[u8]) -> usize
     ensures { λ r. ⌜ r ≡ placeAfter (now (out .entry)) at (now (text .entry)) ⌝ }
     ensures { λ _. ⌜ now (out .exit) ≡ written (now (out .entry)) at (now (text .entry)) ⌝ }
@@ -68,10 +70,4 @@ fn size(n: i32) -> u64
     } else {
         wide as u64
     }
-}
-
-pub(crate) fn least(a: usize, b: usize) -> usize
-    ensures { λ r. ⌜ r ≡ min a b ⌝ }
-{
-    if a < b { a } else { b }
 }

@@ -1,8 +1,8 @@
 // The front of a slice by a count: what was read into it, or written. A count past the end gives
 // the whole slice, so that a caller has nothing to show.
 ghost use mathlib.Core.Path.{_≡_};
+ghost use Prim.Native.Nat.{min};
 ghost use lib.ListN.{take};
-use crate::answers::least;
 
 pub fn first_bytes<'a>(s: &'a [u8], n: usize) -> &'a [u8]
     ensures { λ r. ⌜ now r ≡ take n (now (s .entry)) ⌝ }
@@ -30,4 +30,10 @@ pub fn first_floats<'a>(s: &'a [f64], n: usize) -> &'a [f64]
 {
     let k = least(n, s.len());
     &s[..k]
+}
+
+pub(crate) fn least(a: usize, b: usize) -> usize
+    ensures { λ r. ⌜ r ≡ min a b ⌝ }
+{
+    if a < b { a } else { b }
 }

@@ -1,4 +1,6 @@
-// Lists: items with a comma between two of them, read one by one to the front of a lent slice.
+// Lists: items with a comma between two of them, read one by one to the front of a lent slice. Each
+// filler answers how many items there are. Where one is unreadable or too large, or there is no
+// room for all, the items before the fault are written. Nothing else changes.
 ghost use mathlib.Core.Path.{_≡_};
 ghost use Prim.Native.Nat.{_^_};
 ghost use lib.ListN.{length};

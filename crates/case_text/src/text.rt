@@ -8,7 +8,8 @@ use crate::digits::whole;
 use crate::kinds::Count;
 use crate::kinds::Number;
 
-// Writes the bytes of a text to the front of `out`.
+// Writes the bytes of a text to the front of `out`, and answers how many they are. Where the text
+// is unreadable, or longer than `out`, the bytes before the fault are written. Nothing else changes.
 pub fn text_into(value: &[u8], out: &mut [u8]) -> Count
     ensures { λ r. ⌜ r ≡ counted isSign (signs (now (value .entry))) (length (now (out .entry))) ⌝ }
     ensures { λ _. ⌜ now (out .exit) ≡ front (values isSign byteOf (signs (now (value .entry)))) (now (out .entry)) ⌝ }
