@@ -1,0 +1,59 @@
+// The calls: fields are read, the library is asked, and the answer is put down.
+use crate::answers;
+use case_text::Count;
+use case_text::FloatValue;
+use case_text::field;
+use case_text::first_bytes;
+use case_text::float;
+use case_text::has_field;
+use case_text::text_into;
+
+// The text of a field, in `room`.
+fn text_field(line: &[u8], key: &[u8], room: &mut [u8]) -> Count {
+    if !has_field(line, key) {
+        return Count::Unreadable;
+    }
+    text_into(field(line, key), room)
+}
+
+pub fn string_dna_dg_ds(line: &[u8], out: &mut [u8]) -> usize {
+    let mut dna = [0u8; 1024];
+    let Count::Of(n) = text_field(line, b"dna", &mut dna) else {
+        return answers::unreadable(out);
+    };
+    answers::base_energy(out, utils::string_dna_dg_ds(first_bytes(&dna, n)))
+}
+
+pub fn string_dna_delta_g(line: &[u8], out: &mut [u8]) -> usize {
+    let mut dna = [0u8; 1024];
+    let Count::Of(n) = text_field(line, b"dna", &mut dna) else {
+        return answers::unreadable(out);
+    };
+    let FloatValue::Of(kelvin) = float(field(line, b"kelvin")) else {
+        return answers::unreadable(out);
+    };
+    answers::energy(out, utils::string_dna_delta_g(first_bytes(&dna, n), kelvin))
+}
+
+pub fn string_dna_hundredths(line: &[u8], out: &mut [u8]) -> usize {
+    let mut dna = [0u8; 1024];
+    let Count::Of(n) = text_field(line, b"dna", &mut dna) else {
+        return answers::unreadable(out);
+    };
+    answers::hundredths(out, utils::string_dna_hundredths(first_bytes(&dna, n)))
+}
+
+pub fn sequence_pair_str_dg_ds(line: &[u8], out: &mut [u8]) -> usize {
+    let mut a = [0u8; 1024];
+    let Count::Of(m) = text_field(line, b"a", &mut a) else {
+        return answers::unreadable(out);
+    };
+    let mut b = [0u8; 1024];
+    let Count::Of(n) = text_field(line, b"b", &mut b) else {
+        return answers::unreadable(out);
+    };
+    answers::base_energy(
+        out,
+        utils::sequence_pair_str_dg_ds(first_bytes(&a, m), first_bytes(&b, n)),
+    )
+}
