@@ -25,14 +25,13 @@ def lines(data):
 
 
 def read_line(line):
-    """A case's call and its fields; where a key stands twice the first one counts."""
+    """A case's call and its fields; where a key stands twice the first one counts, and a word without `=` is no field."""
     call, *words = line.split(b" ")
     fields = {}
     for word in words:
         key, equals, value = word.partition(b"=")
-        if not equals:
-            raise Unreadable
-        fields.setdefault(key, value)
+        if equals:
+            fields.setdefault(key, value)
     return call.decode("latin-1"), fields
 
 
@@ -44,7 +43,7 @@ def read_text(fields, key):
             at += 1
         else:
             digits = value[at + 1 : at + 3]
-            if value[at] != ord("%") or len(digits) != 2 or not HEX.issuperset(digits):
+            if value[at] != ord("%") or len(digits) != 2 or not HEX.issuperset(digits) or int(digits, 16) in PLAIN:
                 raise Unreadable
             raw.append(int(digits, 16))
             at += 3

@@ -195,19 +195,20 @@ def joined(draw):
 
 
 def readings(draw):
-    """What docs/CASES.md says of fields: free order, unknown keys, a key twice; and lines that are no case."""
+    """What docs/CASES.md says of fields: free order, unknown keys, a key twice, words that are no field; and lines that are no case."""
     yield "string_dna_delta_g dna=cgatg kelvin=4073626666666666"
     yield "string_dna_dg_ds note= dna=cgatg other=1"
     yield "string_dna_dg_ds dna=cgatg dna=ccc"
     yield "sequence_pair_str_dg_ds b=TGC a=ACG"
     yield "string_dna_dg_ds dna=AC=GT"
+    yield from ["string_dna_dg_ds note dna=cgatg", "string_dna_dg_ds  dna=cgatg ", "string_dna_dg_ds dna dna=cgatg", "string_dna_dg_ds =x dna=cgatg"]
     for line in ["string_dna", "string_dna_dg_dsx dna=AC", "STRING_DNA_DG_DS dna=AC", "string_dna_dg_ds", "string_dna_dg_ds dna"]:
         yield line
     yield from ["string_dna_dg_ds sequence=AC", "string_dna_dg_ds DNA=AC", "string_dna_delta_g dna=AC", "string_dna_hundredths a=AC"]
     yield from ["sequence_pair_str_dg_ds a=AC", "sequence_pair_str_dg_ds b=AC"]
     for kelvin in ["", "310.15", "407362666666666", "40736266666666660", "407362666666666G", "7FF8000000000000"]:
         yield f"string_dna_delta_g kelvin={kelvin} dna=AC"
-    for dna in ["%", "%4", "%zz", "%4E", "A,C", "AC\t", "AC\r", "A\x7fC"]:
+    for dna in ["%", "%4", "%zz", "%4E", "%41C", "A,C", "AC\t", "AC\r", "A\x7fC"]:
         yield f"string_dna_dg_ds dna={dna}"
 
 

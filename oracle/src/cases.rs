@@ -21,12 +21,11 @@ impl<'a> Case<'a> {
         let mut words = line.split(|&byte| byte == b' ');
         let call = words.next().ok_or(Stop::Unreadable)?;
         let fields = words
-            .map(|word| {
-                let end = word.iter().position(|&byte| byte == b'=');
-                end.map(|end| (&word[..end], &word[end + 1..]))
+            .filter_map(|word| {
+                let end = word.iter().position(|&byte| byte == b'=')?;
+                Some((&word[..end], &word[end + 1..]))
             })
-            .collect::<Option<_>>()
-            .ok_or(Stop::Unreadable)?;
+            .collect();
         Ok(Case { call, fields })
     }
 
@@ -77,6 +76,11 @@ pub fn float(value: &[u8]) -> Option<f64> {
     Some(f64::from_bits(bits))
 }
 
+/// A byte that stands for itself in a text.
+fn is_plain(byte: u8) -> bool {
+    (0x21..=0x7e).contains(&byte) && byte != b'%' && byte != b','
+}
+
 pub fn text(value: &[u8]) -> Option<Vec<u8>> {
     let mut bytes = Vec::with_capacity(value.len());
     let mut rest = value;
@@ -84,12 +88,11 @@ pub fn text(value: &[u8]) -> Option<Vec<u8>> {
         rest = after;
         match first {
             b'%' => {
-                bytes.push(hex(rest.get(..2)?)? as u8);
+                let byte = hex(rest.get(..2)?)? as u8;
+                bytes.push(Some(byte).filter(|&byte| !is_plain(byte))?);
                 rest = &rest[2..];
             }
-            b',' => return None,
-            0x21..=0x7e => bytes.push(*first),
-            _ => return None,
+            _ => bytes.push(Some(*first).filter(|&byte| is_plain(byte))?),
         }
     }
     Some(bytes)
