@@ -1,9 +1,10 @@
 -- Letters of a sequence, the bases that they stand for, and the tests on them. Assumes nothing.
-use Prim.Native.Nat.{ℕ, zero, suc}
+use Prim.Native.Nat.{ℕ}
 use mathlib.Core.Bool.{Bool, true, false, cond, not, _||_}
 use mathlib.Core.List.{List, [], _∷_}
 use lib.Dec.{eqb, ltb}
 use lib.ListN.{length, getD}
+use Rattle.units.specs.Places.{firstFailing}
 use Rattle.units.specs.Refusals.{Verdict, refuseIf}
 use Rattle.bases.specs.declared.letters.DnaNucleotideBase.{DnaNucleotideBase}
 use Rattle.bases.specs.declared.letters.DnaNucleotideBase.the-variants.{A, T, G, C}
@@ -51,9 +52,8 @@ abbrev pub goodMatch : DnaNucleotideBase → DnaNucleotideBase → Bool
 goodMatch a b = eqb (indexOf (connectsTo a)) (indexOf b)
 
 -- the place of the first byte that is no letter, the length where all are letters
-unfoldable pub firstBad : List ℕ → ℕ
-firstBad [] = zero
-firstBad (letter ∷ dna) = cond (isLetter letter) (suc (firstBad dna)) zero
+abbrev pub firstBad : List ℕ → ℕ
+firstBad dna = firstFailing isLetter dna
 
 -- 13: more than 256 letters
 abbrev pub lengthVerdict : List ℕ → Verdict

@@ -1,5 +1,5 @@
 -- How a chain of tests is followed through the code, and that an answer prints what the tests came to. Assumes nothing.
-use Prim.Native.Nat.{ℕ, _≤_}
+use Prim.Native.Nat.{ℕ, _≤_, max}
 use mathlib.Core.Path.{_≡_, refl, ap, sym, _∙_}
 use mathlib.Core.Bool.{Bool, true, false, cond}
 use mathlib.Core.List.{List, [], _∷_}
@@ -9,7 +9,7 @@ use lib.ListN.{length, getD, take}
 use Rattle.units.specs.declared.Refusal.{Refusal}
 use Rattle.units.specs.declared.Check.{Check}
 use Rattle.units.specs.declared.Check.the-variants.{Passed, Refused}
-use Rattle.units.specs.Refusals.{Verdict, passes, refuses, refuseIf, _▷_, refusal, check, valueCount, Prints}
+use Rattle.units.specs.Refusals.{Verdict, passes, refuses, refuseIf, _▷_, refusal, check, valueRows, countIn, valueCount, Prints}
 
 -- a first test that refused decides the chain, and one that passed leaves it to the rest
 pub refused-first : {x : Check} {r : Refusal} (v w : Verdict) → x ≡ check v → x ≡ Refused r → Refused r ≡ check (v ▷ w)
@@ -50,10 +50,23 @@ pub tabled-then : (v w : Verdict) → Tabled v → Tabled w → Tabled (v ▷ w)
 tabled-then passes w t u = u
 tabled-then (refuses number values) w t u = t
 
-at-most-two : (b c : Bool) → cond b 2 (cond c 1 0) ≤ 2
-at-most-two true c = omega arith
-at-most-two false true = omega arith
-at-most-two false false = omega arith
+-- a number has at most as many values as the longest row
+longest : List (ℕ × ℕ) → ℕ
+longest [] = 0
+longest (row ∷ rows) = max (row .1) (longest rows)
+
+at-most-longest : (rows : List (ℕ × ℕ)) (number : ℕ) → countIn rows number ≤ longest rows
+unfolding longest
+at-most-longest [] number = omega arith
+at-most-longest (row ∷ rows) number = either (eqb number (row .0)) (at-most-longest rows number)
+  where
+    either : (t : Bool) → countIn rows number ≤ longest rows → cond t (row .1) (countIn rows number) ≤ max (row .1) (longest rows)
+    either true h = omega arith
+    either false h = omega arith
+
+at-most-two : (number : ℕ) → valueCount number ≤ 2
+unfolding longest
+at-most-two number = at-most-longest valueRows number
 
 -- the values of a record that was made of as many values as its number has
 values-back : (values : List ℕ) (n : ℕ) → length values ≡ n → n ≤ 2 → take n (getD values 0 0 ∷ getD values 1 0 ∷ []) ≡ values
@@ -65,4 +78,4 @@ values-back (a ∷ b ∷ c ∷ values) n e h = absurd (omega arith)
 pub prints : (v : Verdict) → Tabled v → Prints (check v) v
 prints passes t = record { number = refl; values = refl }
 prints (refuses number values) t =
-    record { number = refl; values = values-back values (valueCount number) t (at-most-two (eqb number 11) (eqb number 14)) }
+    record { number = refl; values = values-back values (valueCount number) t (at-most-two number) }

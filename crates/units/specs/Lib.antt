@@ -2,3 +2,5 @@ pub mod Decimals
 pub mod Refusals
 pub mod Answers
 pub mod Kelvin
+pub mod Finite
+pub mod Places

@@ -43,9 +43,27 @@ abbrev pub check : Verdict → Check
 check passes = Passed
 check (refuses number values) = Refused (refusal number values)
 
+-- the new value where the tests pass, else what was there: a refusal writes nothing
+abbrev pub ifPasses : {A : Type 0} → Verdict → (new old : A) → A
+ifPasses passes new old = new
+ifPasses (refuses number values) new old = old
+
+-- the rows of document 01's table that have values beside their number, and how many
+abbrev pub valueRows : List (ℕ × ℕ)
+valueRows =
+    (3, 1)
+    ∷ (11, 2)
+    ∷ (14, 1)
+    ∷ []
+
+-- how many a row of these has for a number, none where it has no row
+abbrev pub countIn : List (ℕ × ℕ) → ℕ → ℕ
+countIn [] number = 0
+countIn (row ∷ rows) number = cond (eqb number (row .0)) (row .1) (countIn rows number)
+
 -- how many values stand beside a number in document 01's table
 abbrev pub valueCount : ℕ → ℕ
-valueCount number = cond (eqb number 11) 2 (cond (eqb number 14) 1 0)
+valueCount number = countIn valueRows number
 
 -- the paper's number and values of what the code hands on
 abbrev pub numberOf : Check → ℕ

@@ -2,6 +2,7 @@
 ghost use mathlib.Core.Path.{_≡_};
 ghost use Rattle.units.specs.Refusals.{check};
 ghost use Rattle.units.specs.Kelvin.{kelvinVerdict, energyAt};
+ghost use Rattle.units.specs.Finite.{finite};
 
 // ΔG at 37 °C in kcal/mol, and ΔS in kcal/(mol·K).
 pub struct BaseEnergy {
@@ -61,4 +62,15 @@ pub fn energy_at(energy: BaseEnergy, kelvin: f64) -> f64
     ensures { λ r. ⌜ r ≡ energyAt energy kelvin ⌝ }
 {
     energy.dg - (kelvin - 310.15) * energy.ds
+}
+
+// Whether a float is finite: neither a NaN nor an infinity.
+pub fn is_finite(x: f64) -> bool
+    ensures { λ r. ⌜ r ≡ finite x ⌝ }
+{
+    let infinity = 1.0 / 0.0;
+    if x < infinity {
+        return -infinity < x;
+    }
+    false
 }

@@ -3,7 +3,8 @@ use mathlib.Core.Path.{_≡_, refl}
 use mathlib.Core.List.{map}
 use lib.Ieee.{ofBits, add}
 use Rattle.units.specs.Decimals.{decimal}
-use Rattle.bases.specs.Letters.{baseOf, isLetter, firstBad}
+use Rattle.units.specs.Places.{firstFailing}
+use Rattle.bases.specs.Letters.{baseOf, isLetter}
 use Rattle.bases.specs.Steps.{noEnergy, stepOf, dgDs}
 use Rattle.bases.specs.Mismatches.{calcPenalty, penaltyTable}
 use Rattle.bases.specs.Loops.{loopPenalty, upTo, lengths, loopTable}
@@ -12,5 +13,5 @@ use Rattle.utils.specs.Hundredths.{stepsHundredths, endTerm}
 use Rattle.utils.specs.Starred.{Outcome, Case, starred}
 
 pub starred-cases-hold : map (λ (c : Case). c .given) starred ≡ map (λ (c : Case). c .printed) starred
-unfolding starred ofBits add decimal baseOf isLetter firstBad noEnergy stepOf dgDs calcPenalty penaltyTable loopPenalty upTo lengths loopTable windowsSum stepsHundredths endTerm
+unfolding starred ofBits add decimal baseOf isLetter firstFailing noEnergy stepOf dgDs calcPenalty penaltyTable loopPenalty upTo lengths loopTable windowsSum stepsHundredths endTerm
 starred-cases-hold = refl

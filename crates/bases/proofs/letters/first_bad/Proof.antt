@@ -5,8 +5,8 @@ use native.Mathlib.Omega.{arith}
 use lib.ListN.{length, drop}
 use borrow.Author.Needs.{needs}
 use borrow.Author.Tests.{not-true, not-false}
-use Rattle.bases.specs.Letters.{firstBad}
-use Rattle.bases.proofs.FirstBad.{passed, stopped, ended}
+use Rattle.bases.specs.Letters.{isLetter, firstBad}
+use Rattle.units.proofs.Places.{passed, stopped, ended}
 use Rattle.bases.proofs.letters.first_bad.Statement.{statement}
 use Rattle.bases.proofs.letters.first_bad.Tie as tie
 
@@ -28,7 +28,7 @@ is-letter-requires c κs = search needs
 returns : tie.Need-returns Inv-loop μ-loop
 returns c =
     let turn = c .before .before .before in
-    sym (turn .before .loop .inv .1 ∙ stopped _ _ (turn .loop-test .taken) (sym (c .before .is-letter .ensures) ∙ not-true _ (c .if1 .taken)))
+    sym (turn .before .loop .inv .1 ∙ stopped isLetter _ 0 _ (turn .loop-test .taken) (sym (c .before .is-letter .ensures) ∙ not-true _ (c .if1 .taken)))
 
 add-i : tie.Need-add-i Inv-loop μ-loop
 add-i c = omega arith
@@ -39,10 +39,10 @@ loop-less c = omega arith
 loop-again : tie.Need-loop-again Inv-loop μ-loop
 loop-again c =
     let turn = c .before .before .before in
-    (omega arith, turn .before .loop .inv .1 ∙ passed _ _ (turn .loop-test .taken) (sym (c .before .is-letter .ensures) ∙ not-false _ (c .if1 .left)))
+    (omega arith, turn .before .loop .inv .1 ∙ passed isLetter _ 0 _ (turn .loop-test .taken) (sym (c .before .is-letter .ensures) ∙ not-false _ (c .if1 .left)))
 
 returns-2 : tie.Need-returns-2 Inv-loop μ-loop
-returns-2 c = sym (c .before .loop .inv .1 ∙ ended _ _ (c .loop-test .left))
+returns-2 c = sym (c .before .loop .inv .1 ∙ ended isLetter _ _ (c .loop-test .left))
 
 pub first-bad-spec : {M : Type 1} → statement M
 first-bad-spec =
