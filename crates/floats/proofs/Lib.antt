@@ -1,0 +1,9 @@
+pub mod Tests
+pub mod Signed
+pub mod Finite
+pub mod Order
+pub mod Good
+pub mod Round
+pub mod Sum
+pub mod Add
+pub mod Least
