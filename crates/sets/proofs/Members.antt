@@ -37,6 +37,7 @@ pub record Member (legal : ℕ → Bool) (n p t : ℕ) : Type 0 where
   pub position : length (members legal t) ≡ p
 
 module _ (legal : ℕ → Bool) where
+  -- before the first strand there is no member
   pub members-none : members legal 0 ≡ []
   unfolding members
   members-none = refl
@@ -124,7 +125,7 @@ module _ (legal : ℕ → Bool) where
           let same : length (members legal n) ≡ p = omega arith in
           subst (Member legal (suc n) p) (sym (getD-at (members legal n) n [] d p same)) (record { is-legal = e; below = omega arith; position = same })
 
-  -- the members rise, so that each occurs once
+  -- the members rise
   pub rising : (n p q d : ℕ) → p < q → q < length (members legal n) → getD (members legal n) p d < getD (members legal n) q d
   rising n p q d l h =
       let first = member n p d (omega arith) in
@@ -136,6 +137,7 @@ module _ (legal : ℕ → Bool) where
       go a b (yes r) = r
       go a b (no g) = absurd (omega (arith, length-mono (getD (members legal n) q d) (getD (members legal n) p d) (omega arith), a .position, b .position))
 
+  -- two positions of one member are the same
   pub once : (n p q d : ℕ) → p < length (members legal n) → q < length (members legal n) → getD (members legal n) p d ≡ getD (members legal n) q d → p ≡ q
   once n p q d hp hq e = sym (member n p d hp .position) ∙ ap (λ (t : ℕ). length (members legal t)) e ∙ member n q d hq .position
 

@@ -19,12 +19,13 @@ use Rattle.sets.proofs.NextMember.{Next, next-is}
 
 -- ---- no strand, and one strand
 
+-- the set of no strand is 0
 pub word-none : (n : ℕ) → word (λ s. false) n ≡ 0
 unfolding word
 word-none zero = refl
 word-none (suc n) = ap (λ (w : ℕ). 0 * 2 ^ n + w) (word-none n) ∙ add-zero (0 * 2 ^ n) ∙ zero-mul (2 ^ n)
 
--- the set of one strand is a power of two
+-- a power of two has one strand
 pub has-pow : (t s : ℕ) → has (2 ^ t) s ≡ eqb s t
 has-pow t s = go (decLt s t) (ℕ-discrete s t)
   where
@@ -36,6 +37,7 @@ has-pow t s = go (decLt s t) (ℕ-discrete s t)
     go (no g) (yes e) = ap₂ has one (e ∙ sym (add-zero t)) ∙ has-high 1 t 0 0 (pow-pos t) ∙ has-zero 1 ∙ sym (eq-eqb s t e)
     go (no g) (no d) = has-beyond (2 ^ t) (t + 1) s (pow-lt (omega arith)) (omega arith) ∙ sym (ne-eqb s t d)
 
+-- so it is the set of that strand
 pub word-only : (n t : ℕ) → t < n → word (λ s. eqb s t) n ≡ 2 ^ t
 word-only n t h =
     same-bits n (word (λ s. eqb s t) n) (2 ^ t) (word-lt (λ s. eqb s t) n) (pow-lt h) (λ s l. has-word (λ s. eqb s t) n s l ∙ sym (has-pow t s))
@@ -76,9 +78,11 @@ min-digit (suc zero) (suc zero) hx hy = refl
 min-digit (suc zero) (suc (suc y)) hx hy = absurd (omega arith)
 min-digit (suc (suc x)) y hx hy = absurd (omega arith)
 
+-- a strand is in the or of two numbers where it is in one of them
 pub has-or : (a b s : ℕ) → has (bitOr a b) s ≡ (has a s || has b s)
 has-or = has-op bitOr max _||_ or-shr or-step (λ x y hx hy. omega arith) max-digit
 
+-- and in their and where it is in both
 pub has-and : (a b s : ℕ) → has (bitAnd a b) s ≡ (has a s && has b s)
 has-and = has-op bitAnd min _&&_ and-shr and-step (λ x y hx hy. omega arith) min-digit
 
