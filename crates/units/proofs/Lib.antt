@@ -1,4 +1,5 @@
 pub mod Verdicts
 pub mod Answers
 pub mod Unique
+pub mod Decimals
 pub mod Places

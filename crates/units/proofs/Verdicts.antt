@@ -1,6 +1,6 @@
 -- How a chain of tests is followed through the code, and that an answer prints what the tests came to. Assumes nothing.
 use Prim.Native.Nat.{ℕ, _≤_, max}
-use mathlib.Core.Path.{_≡_, refl, ap, sym, _∙_}
+use mathlib.Core.Path.{_≡_, refl, ap, sym, subst, _∙_}
 use mathlib.Core.Bool.{Bool, true, false, cond}
 use mathlib.Core.List.{List, [], _∷_}
 use native.Mathlib.Omega.{arith}
@@ -79,3 +79,7 @@ pub prints : (v : Verdict) → Tabled v → Prints (check v) v
 prints passes t = record { number = refl; values = refl }
 prints (refuses number values) t =
     record { number = refl; values = values-back values (valueCount number) t (at-most-two number) }
+
+-- a test's answer that is the verdict prints as a contract asks
+pub printed : {x : Check} (v : Verdict) → Tabled v → x ≡ check v → Prints x v × (x ≡ check v)
+printed v t e = (subst (λ (c : Check). Prints c v) (sym e) (prints v t), e)

@@ -51,7 +51,9 @@ ifPasses (refuses number values) new old = old
 -- the rows of document 01's table that have values beside their number, and how many
 abbrev pub valueRows : List (ℕ × ℕ)
 valueRows =
-    (3, 1)
+    (2, 1)
+    ∷ (3, 1)
+    ∷ (4, 1)
     ∷ (11, 2)
     ∷ (14, 1)
     ∷ []

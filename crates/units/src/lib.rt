@@ -1,7 +1,7 @@
 // What every part passes along: a base energy, a refusal, the answers; and the temperature.
 ghost use mathlib.Core.Path.{_≡_};
 ghost use Rattle.units.specs.Refusals.{check};
-ghost use Rattle.units.specs.Kelvin.{kelvinVerdict, energyAt};
+ghost use Rattle.units.specs.Kelvin.{inKelvinRange, kelvinVerdict, energyAt};
 ghost use Rattle.units.specs.Finite.{finite};
 
 // ΔG at 37 °C in kcal/mol, and ΔS in kcal/(mol·K).
@@ -42,13 +42,18 @@ pub enum HundredthsAnswer {
 }
 
 // A temperature is taken from 200 to 500 kelvin, the ends included; a NaN is outside.
+pub fn in_kelvin_range(kelvin: f64) -> bool
+    ensures { λ r. ⌜ r ≡ inKelvinRange kelvin ⌝ }
+{
+    200.0 <= kelvin && kelvin <= 500.0
+}
+
+// Refusal 1 where the temperature is outside its range.
 pub fn check_kelvin(kelvin: f64) -> Check
     ensures { λ r. ⌜ r ≡ check (kelvinVerdict kelvin) ⌝ }
 {
-    if 200.0 <= kelvin {
-        if kelvin <= 500.0 {
-            return Check::Passed;
-        }
+    if in_kelvin_range(kelvin) {
+        return Check::Passed;
     }
     Check::Refused(Refusal {
         number: 1,

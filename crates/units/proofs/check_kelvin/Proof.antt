@@ -1,20 +1,17 @@
--- `units::check_kelvin` meets its contract: each way out has the two tests that led there. Assumes nothing.
-use lib.Ieee.{ofBits}
-use Rattle.units.specs.Decimals.{decimal}
+-- `units::check_kelvin` meets its contract. Assumes nothing.
+use mathlib.Core.Path.{sym, _∙_}
+use borrow.Author.Needs.{needs}
 use Rattle.units.proofs.check_kelvin.Statement.{statement}
 use Rattle.units.proofs.check_kelvin.Tie as tie
 
+in-kelvin-range-requires : tie.Need-in-kelvin-range-requires
+in-kelvin-range-requires c κs = search needs
+
 returns : tie.Need-returns
-unfolding ofBits decimal
-returns c = rw (c .before .if1 .taken, c .if2 .taken)
+returns c = rw (sym (c .before .in-kelvin-range .ensures) ∙ c .if1 .taken)
 
 returns-2 : tie.Need-returns-2
-unfolding ofBits decimal
-returns-2 c = rw (c .before .if1 .taken, c .if2 .left)
-
-returns-3 : tie.Need-returns-3
-unfolding ofBits decimal
-returns-3 c = rw (c .if1 .left)
+returns-2 c = rw (sym (c .before .in-kelvin-range .ensures) ∙ c .if1 .left)
 
 pub check-kelvin-spec : {M : Type 1} → statement M
-check-kelvin-spec = tie.close (tie.spec returns returns-2 returns-3)
+check-kelvin-spec = tie.close (tie.spec in-kelvin-range-requires returns returns-2)

@@ -1,0 +1,4 @@
+pub mod Placed
+pub mod Seeds
+pub mod Ranges
+pub mod Tabled

@@ -1,0 +1,97 @@
+-- The system and what is refused of it, numbers 1 to 4. Assumes nothing.
+use Prim.Native.Nat.{ℕ, zero, suc, _+_, _*_, _/_, _%_}
+use mathlib.Core.Bool.{Bool, true, false, cond, not, _&&_}
+use mathlib.Core.List.{List, [], _∷_}
+use lib.Dec.{leb, ltb, eqb}
+use lib.Ieee.{Float, nan, inf, fin}
+use lib.ListN.{length, drop}
+use Rattle.units.specs.Finite.{finite}
+use Rattle.units.specs.Kelvin.{inKelvinRange}
+use Rattle.units.specs.Places.{placeVerdict}
+use Rattle.units.specs.Refusals.{Verdict, refuseIf, _▷_}
+use Rattle.sdc2d.specs.declared.sizes.Sizes.{Sizes}
+
+-- What every call on a system is lent, in this order.
+pub record System : Type 0 where
+  pub sizes : Sizes
+  pub strandGlues : List ℕ
+  pub scaffold : List ℕ
+  pub deltaG : List Float
+  pub entropy : List Float
+  pub logs : List Float
+  pub seeds : List ℕ
+
+abbrev pub system : Sizes → (strandGlues scaffold : List ℕ) → (deltaG entropy logs : List Float) → (seeds : List ℕ) → System
+system sizes strandGlues scaffold deltaG entropy logs seeds =
+    record {
+      sizes = sizes;
+      strandGlues = strandGlues;
+      scaffold = scaffold;
+      deltaG = deltaG;
+      entropy = entropy;
+      logs = logs;
+      seeds = seeds;
+    }
+
+-- from 1 to `most`
+abbrev pub inRange : (n most : ℕ) → Bool
+inRange n most = leb 1 n && leb n most
+
+-- rows and columns 1 to 32, strands 1 to 64, glues 1 to 256, 200 to 500 kelvin
+abbrev pub sizesFit : Sizes → Bool
+sizesFit z =
+    inRange (z .rows) 32 && (inRange (z .cols) 32 && (inRange (z .strands) 64 && (inRange (z .glues) 256 && inKelvinRange (z .kelvin))))
+
+-- five glues a strand, one glue a bay, two square matrices over the glues, one logarithm a strand, seeds in triples
+abbrev pub lengthsFit : System → Bool
+lengthsFit s =
+    eqb (length (s .strandGlues)) (s .sizes .strands * 5)
+    && (eqb (length (s .scaffold)) (s .sizes .rows * s .sizes .cols)
+    && (eqb (length (s .deltaG)) (s .sizes .glues * s .sizes .glues)
+    && (eqb (length (s .entropy)) (s .sizes .glues * s .sizes .glues)
+    && (eqb (length (s .logs)) (s .sizes .strands) && eqb (length (s .seeds) % 3) 0))))
+
+-- 1: a size or the temperature is out of range, or a slice has the wrong length
+abbrev pub sizesVerdict : System → Verdict
+sizesVerdict s = refuseIf (not (sizesFit (s .sizes) && lengthsFit s)) 1 []
+
+-- 2, with the first place through strand glues, then scaffold: a glue number is not below the count
+abbrev pub gluesVerdict : (glues : ℕ) → (strandGlues scaffold : List ℕ) → Verdict
+gluesVerdict glues strandGlues scaffold =
+    placeVerdict 2 0 (λ g. ltb g glues) strandGlues ▷ placeVerdict 2 (length strandGlues) (λ g. ltb g glues) scaffold
+
+-- a log concentration that is neither a NaN nor plus infinity
+unfoldable pub isLog : Float → Bool
+isLog nan = false
+isLog (inf negative) = negative
+isLog (fin negative m e) = true
+
+-- 3, with the first place through ΔG, ΔS, log concentrations: an energy is not finite, or a logarithm is none; strand 0's is never read
+abbrev pub energiesVerdict : (deltaG entropy logs : List Float) → Verdict
+energiesVerdict deltaG entropy logs =
+    placeVerdict 3 0 finite deltaG
+    ▷ placeVerdict 3 (length deltaG) finite entropy
+    ▷ placeVerdict 3 (length deltaG + length entropy + 1) isLog (drop 1 logs)
+
+-- a seed lies on the grid and its strand is below the count
+abbrev pub seedFits : Sizes → (row col strand : ℕ) → Bool
+seedFits z row col strand = ltb row (z .rows) && (ltb col (z .cols) && ltb strand (z .strands))
+
+-- the number of the first seed that does not, of the whole triples in a list
+unfoldable pub firstBadSeed : Sizes → List ℕ → ℕ
+firstBadSeed z [] = zero
+firstBadSeed z (row ∷ []) = zero
+firstBadSeed z (row ∷ col ∷ []) = zero
+firstBadSeed z (row ∷ col ∷ strand ∷ seeds) = cond (seedFits z row col strand) (suc (firstBadSeed z seeds)) zero
+
+-- 4, with the seed's place: a seed is off the grid, or its strand is not below the count
+abbrev pub seedsVerdict : Sizes → (seeds : List ℕ) → Verdict
+seedsVerdict z seeds = refuseIf (ltb (firstBadSeed z seeds) (length seeds / 3)) 4 (firstBadSeed z seeds ∷ [])
+
+-- 1 to 4, in rising order
+abbrev pub systemVerdict : System → Verdict
+systemVerdict s =
+    sizesVerdict s
+    ▷ gluesVerdict (s .sizes .glues) (s .strandGlues) (s .scaffold)
+    ▷ energiesVerdict (s .deltaG) (s .entropy) (s .logs)
+    ▷ seedsVerdict (s .sizes) (s .seeds)
