@@ -1,13 +1,18 @@
 // What every part passes along: a base energy, a refusal, the answers; and the temperature.
 ghost use mathlib.Core.Path.{_≡_};
 ghost use Rattle.units.specs.Refusals.{check};
-ghost use Rattle.units.specs.Kelvin.{inKelvinRange, kelvinVerdict, energyAt};
+ghost use Rattle.units.specs.Kelvin.{inKelvinRange, kelvinVerdict, energyAt, rtval as Kelvin·rtval, timesBeta};
 ghost use Rattle.units.specs.Finite.{finite};
 
 // ΔG at 37 °C in kcal/mol, and ΔS in kcal/(mol·K).
 pub struct BaseEnergy {
     pub dg: f64,
     pub ds: f64,
+}
+
+// The glues of one strand: north, east, south, west, bottom.
+pub struct StrandGlues {
+    pub glues: [u32; 5],
 }
 
 // A refusal of document 01's table: its number and its values in their order; an unused value is 0.
@@ -67,6 +72,20 @@ pub fn energy_at(energy: BaseEnergy, kelvin: f64) -> f64
     ensures { λ r. ⌜ r ≡ energyAt energy kelvin ⌝ }
 {
     energy.dg - (kelvin - 310.15) * energy.ds
+}
+
+// R·T in kcal/mol.
+pub fn rtval(kelvin: f64) -> f64
+    ensures { λ r. ⌜ r ≡ Kelvin·rtval kelvin ⌝ }
+{
+    (1.98720425864083 / 1000.0) * kelvin
+}
+
+// An energy in units of R·T.
+pub fn times_beta(energy: f64, kelvin: f64) -> f64
+    ensures { λ r. ⌜ r ≡ timesBeta energy kelvin ⌝ }
+{
+    energy / rtval(kelvin)
 }
 
 // Whether a float is finite: neither a NaN nor an infinity.

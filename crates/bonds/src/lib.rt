@@ -1,0 +1,110 @@
+// Bonds between glues: two strands side by side, and a strand on the scaffold, in units of R·T.
+ghost use mathlib.Core.Path.{_≡_};
+ghost use Prim.Native.Nat.{_+_, _*_, _≤_, _<_};
+ghost use lib.ListN.{length, getD};
+ghost use Rattle.units.specs.Kelvin.{energyAt};
+ghost use Rattle.bonds.specs.Bonds.{Square, cellOf, bondOf, gluesOf, bondWe, bondNs, bondWithScaffold, scaffoldGlue};
+use units::BaseEnergy;
+use units::StrandGlues;
+
+// The five glues of a strand, read from the flat table.
+pub fn strand_glues_of(strand_glues: &[u32], strand: usize) -> StrandGlues
+    requires { ⌜ strand * 5 + 5 ≤ length (now «strand_glues») ⌝ }
+    ensures { λ r. ⌜ r ≡ gluesOf (now («strand_glues» .entry)) strand ⌝ }
+{
+    let at = strand * 5;
+    StrandGlues {
+        glues: [
+            strand_glues[at],
+            strand_glues[at + 1],
+            strand_glues[at + 2],
+            strand_glues[at + 3],
+            strand_glues[at + 4],
+        ],
+    }
+}
+
+// The glue of a bay: the one reader of the scaffold.
+pub fn scaffold_glue_at(scaffold: &[u32], bay: usize) -> u32
+    requires { ⌜ bay < length (now scaffold) ⌝ }
+    ensures { λ r. ⌜ r ≡ scaffoldGlue (now (scaffold .entry)) bay ⌝ }
+{
+    scaffold[bay]
+}
+
+// A cell of the two matrices.
+pub fn cell(delta_g: &[f64], entropy: &[f64], glues: usize, a: u32, b: u32) -> BaseEnergy
+    requires { ⌜ Square (now «delta_g») (now entropy) glues a b ⌝ }
+    ensures { λ r. ⌜ r ≡ cellOf (now («delta_g» .entry)) (now (entropy .entry)) glues a b ⌝ }
+{
+    let at = (a as usize) * glues + (b as usize);
+    BaseEnergy {
+        dg: delta_g[at],
+        ds: entropy[at],
+    }
+}
+
+// ΔG of a cell at a temperature.
+pub fn glue_glue_dg(energy: BaseEnergy, kelvin: f64) -> f64
+    ensures { λ r. ⌜ r ≡ energyAt energy kelvin ⌝ }
+{
+    units::energy_at(energy, kelvin)
+}
+
+// The bond of a cell.
+pub fn bond(energy: BaseEnergy, kelvin: f64) -> f64
+    ensures { λ r. ⌜ r ≡ bondOf energy kelvin ⌝ }
+{
+    units::times_beta(glue_glue_dg(energy, kelvin), kelvin)
+}
+
+// The bond of two strands, `west` to the west of `east`.
+pub fn bond_we(
+    delta_g: &[f64],
+    entropy: &[f64],
+    glues: usize,
+    kelvin: f64,
+    west: StrandGlues,
+    east: StrandGlues,
+) -> f64
+    requires { ⌜ Square (now «delta_g») (now entropy) glues (getD (west .glues) 1 0) (getD (east .glues) 3 0) ⌝ }
+    ensures { λ r. ⌜ r ≡ bondWe (now («delta_g» .entry)) (now (entropy .entry)) glues kelvin west east ⌝ }
+{
+    bond(
+        cell(delta_g, entropy, glues, west.glues[1], east.glues[3]),
+        kelvin,
+    )
+}
+
+// The bond of two strands, `north` to the north of `south`.
+pub fn bond_ns(
+    delta_g: &[f64],
+    entropy: &[f64],
+    glues: usize,
+    kelvin: f64,
+    north: StrandGlues,
+    south: StrandGlues,
+) -> f64
+    requires { ⌜ Square (now «delta_g») (now entropy) glues (getD (north .glues) 2 0) (getD (south .glues) 0 0) ⌝ }
+    ensures { λ r. ⌜ r ≡ bondNs (now («delta_g» .entry)) (now (entropy .entry)) glues kelvin north south ⌝ }
+{
+    bond(
+        cell(delta_g, entropy, glues, north.glues[2], south.glues[0]),
+        kelvin,
+    )
+}
+
+// The bond of a strand to a bay's glue.
+pub fn bond_with_scaffold(
+    delta_g: &[f64],
+    entropy: &[f64],
+    glues: usize,
+    kelvin: f64,
+    glue: u32,
+    strand: StrandGlues,
+) -> f64
+    requires { ⌜ Square (now «delta_g») (now entropy) glues glue (getD (strand .glues) 4 0) ⌝ }
+    ensures { λ r. ⌜ r ≡ bondWithScaffold (now («delta_g» .entry)) (now (entropy .entry)) glues kelvin glue strand ⌝ }
+{
+    bond(cell(delta_g, entropy, glues, glue, strand.glues[4]), kelvin)
+}
