@@ -11,7 +11,7 @@ use Rattle.sdc2d.specs.declared.sizes.Sizes.{Sizes}
 use Rattle.sdc2d.specs.System.{seedFits, firstBadSeed}
 
 -- what is left at a place that three numbers follow
-three : (at : ℕ) (seeds : List ℕ) → at + 2 < length seeds → drop at seeds ≡ getD seeds at 0 ∷ getD seeds (at + 1) 0 ∷ getD seeds (at + 2) 0 ∷ drop (at + 3) seeds
+pub three : (at : ℕ) (seeds : List ℕ) → at + 2 < length seeds → drop at seeds ≡ getD seeds at 0 ∷ getD seeds (at + 1) 0 ∷ getD seeds (at + 2) 0 ∷ drop (at + 3) seeds
 three at seeds h =
     drop-cons seeds at 0 (omega arith)
     ∙ ap (λ l. getD seeds at 0 ∷ l)

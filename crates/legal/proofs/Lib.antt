@@ -1,0 +1,2 @@
+pub mod SeedOf
+pub mod Naming

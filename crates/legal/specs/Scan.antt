@@ -1,0 +1,8 @@
+-- The order in which bays are scanned: by rows if columns ≤ rows, else by columns. Assumes nothing.
+use Prim.Native.Nat.{ℕ, _+_, _*_, _/_, _%_}
+use mathlib.Core.Bool.{Bool, cond}
+use lib.Dec.{leb}
+
+-- the bay, by its row-by-row number, that is scanned as number k
+abbrev pub bayAt : (rows cols k : ℕ) → ℕ
+bayAt rows cols k = cond (leb cols rows) k (k % rows * cols + k / rows)
