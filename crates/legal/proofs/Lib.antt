@@ -1,2 +1,5 @@
 pub mod SeedOf
+pub mod SeedBelow
 pub mod Naming
+pub mod Below
+pub mod BaseSet

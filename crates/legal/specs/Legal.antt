@@ -34,16 +34,24 @@ abbrev pub isBond : BaseEnergy → Bool
 isBond energy = ne (energy .dg) (plus 0 1) || ne (energy .ds) (plus 0 1)
 
 -- a strand's bottom glue binds a glue
-abbrev pub binds : System → (glue strand : ℕ) → Bool
-binds s glue strand = isBond (cellOf (s .deltaG) (s .entropy) (s .sizes .glues) glue (bottom (gluesOf (s .strandGlues) strand)))
+abbrev pub binds : (strandGlues : List ℕ) → (deltaG entropy : List Float) → (glues glue strand : ℕ) → Bool
+binds strandGlues deltaG entropy glues glue strand = isBond (cellOf deltaG entropy glues glue (bottom (gluesOf strandGlues strand)))
 
--- a strand that may lie on a bay without constraints: the seed alone; else 0, and each strand that binds the bay's glue
-abbrev pub permits : System → (bay : ℕ) → Seed → (strand : ℕ) → Bool
-permits s bay (Seeded seed) strand = eqb strand seed
-permits s bay Unseeded strand = eqb strand 0 || binds s (scaffoldGlue (s .scaffold) bay) strand
+-- a strand that may lie on an unseeded bay with this glue: 0, and each strand that binds it
+abbrev pub mayLie : (strandGlues : List ℕ) → (deltaG entropy : List Float) → (glues glue strand : ℕ) → Bool
+mayLie strandGlues deltaG entropy glues glue strand = eqb strand 0 || binds strandGlues deltaG entropy glues glue strand
+
+-- a strand that a bay permits without constraints: the seed alone, else what may lie on its glue
+abbrev pub permits : Sizes → (strandGlues scaffold : List ℕ) → (deltaG entropy : List Float) → (bay : ℕ) → Seed → (strand : ℕ) → Bool
+permits z strandGlues scaffold deltaG entropy bay (Seeded seed) strand = eqb strand seed
+permits z strandGlues scaffold deltaG entropy bay Unseeded strand = mayLie strandGlues deltaG entropy (z .glues) (scaffoldGlue scaffold bay) strand
+
+abbrev pub permitted : Sizes → (strandGlues scaffold : List ℕ) → (deltaG entropy : List Float) → (seeds : List ℕ) → (bay strand : ℕ) → Bool
+permitted z strandGlues scaffold deltaG entropy seeds bay strand =
+    ltb strand (z .strands) && permits z strandGlues scaffold deltaG entropy bay (seedAt (z .cols) seeds bay) strand
 
 abbrev pub baseAllowed : System → (bay strand : ℕ) → Bool
-baseAllowed s bay strand = ltb strand (s .sizes .strands) && permits s bay (seedAt (s .sizes .cols) (s .seeds) bay) strand
+baseAllowed s bay strand = permitted (s .sizes) (s .strandGlues) (s .scaffold) (s .deltaG) (s .entropy) (s .seeds) bay strand
 
 -- constraints are absent, or a list for each bay
 pub record Constraints : Type 0 where

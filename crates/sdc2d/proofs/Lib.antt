@@ -2,3 +2,4 @@ pub mod Placed
 pub mod Seeds
 pub mod Ranges
 pub mod Tabled
+pub mod Fine
