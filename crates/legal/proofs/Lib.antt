@@ -3,3 +3,4 @@ pub mod SeedBelow
 pub mod Naming
 pub mod Below
 pub mod BaseSet
+pub mod Restricting
