@@ -1,6 +1,9 @@
 // Entries of a lent text: entry i is what stands from offset i up to offset i + 1.
 ghost use mathlib.Core.Path.{_≡_};
-ghost use Rattle.entries.specs.Entries.{offsetsFit, areFlags, sameBytes};
+ghost use mathlib.Core.Bool.{true};
+ghost use Prim.Native.Nat.{_+_, _<_};
+ghost use lib.ListN.{length};
+ghost use Rattle.entries.specs.Entries.{entryOf, offsetsFit, areFlags, sameBytes};
 
 // Whether offsets never fall and never pass `end`, the length of their text.
 pub fn offsets_fit(offsets: &[usize], end: usize) -> bool
@@ -41,4 +44,15 @@ pub fn same_bytes(a: &[u8], b: &[u8]) -> bool
     ensures { λ r. ⌜ r ≡ sameBytes (now (a .entry)) (now (b .entry)) ⌝ }
 {
     check::same(a, b)
+}
+
+// Entry i of a text.
+pub fn entry<'a>(text: &'a [u8], offsets: &[usize], i: usize) -> &'a [u8]
+    requires { ⌜ i + 1 < length (now offsets) ⌝ }
+    requires { ⌜ offsetsFit (length (now text)) (now offsets) ≡ true ⌝ }
+    ensures { λ r. ⌜ now r ≡ entryOf (now (text .entry)) (now (offsets .entry)) i ⌝ }
+{
+    let from = offsets[i];
+    let to = offsets[i + 1];
+    &text[from..to]
 }

@@ -14,3 +14,9 @@ OneAnswer n params result Post =
 
 pub one-answer : {A : Type 0} {x r s : A} → r ≡ x → s ≡ x → r ≡ s
 one-answer e f = e ∙ sym f
+
+-- Of a lent table: two exits that meet the contract on the same input hold the same there.
+abbrev pub OneExit : (n : ℕ) (params : List (PK n)) (result : RK n) {A : Type 0} → ((κs : Lfts n) → AtExit (endedOf n params result) κs → A) → Out n params result → Type 0
+OneExit n params result held Post =
+    (κs : Lfts n) (input : Dens κs params) (a b : resT result κs .Denot) (at-a at-b : AtExit (endedOf n params result) κs)
+    → Post κs input a at-a → Post κs input b at-b → held κs at-a ≡ held κs at-b

@@ -9,7 +9,7 @@ use lib.ListN.{length, getD, take}
 use Rattle.units.specs.declared.Refusal.{Refusal}
 use Rattle.units.specs.declared.Check.{Check}
 use Rattle.units.specs.declared.Check.the-variants.{Passed, Refused}
-use Rattle.units.specs.Refusals.{Verdict, passes, refuses, refuseIf, _▷_, refusal, check, valueRows, countIn, valueCount, Prints}
+use Rattle.units.specs.Refusals.{Verdict, passes, refuses, refuseIf, _▷_, refusal, check, ifPasses, valueRows, countIn, valueCount, Prints}
 
 -- a first test that refused decides the chain, and one that passed leaves it to the rest
 pub refused-first : {x : Check} {r : Refusal} (v w : Verdict) → x ≡ check v → x ≡ Refused r → Refused r ≡ check (v ▷ w)
@@ -22,6 +22,11 @@ passed (refuses number values) e f = cc
 
 pub passed-first : {x : Check} (v w : Verdict) → x ≡ check v → x ≡ Passed → v ▷ w ≡ w
 passed-first v w e f = rw (passed v e f)
+
+-- where the tests refused, what was there stays
+pub refused-keeps : {A : Type 0} {x : Check} {r : Refusal} (v : Verdict) (new old : A) → x ≡ check v → x ≡ Refused r → old ≡ ifPasses v new old
+refused-keeps passes new old e f = cc
+refused-keeps (refuses number values) new old e f = refl
 
 -- a test that passed has found no fault
 pub no-fault : (b : Bool) (number : ℕ) (values : List ℕ) → refuseIf b number values ≡ passes → b ≡ false

@@ -13,7 +13,7 @@ use Rattle.units.proofs.Verdicts.{Tabled, tabled-if, tabled-then, no-fault, fir
 use Rattle.utils.specs.declared.pair.PairSum.{PairSum}
 use Rattle.utils.specs.declared.pair.PairSum.the-variants.{Going, NoLoopValue}
 use Rattle.bases.specs.Letters.{lengthVerdict, lettersVerdict, firstBad}
-use Rattle.utils.specs.Single.{shortVerdict, singleVerdict, singleAtVerdict}
+use Rattle.utils.specs.Single.{shortVerdict, sequenceVerdict, singleVerdict, singleAtVerdict}
 use Rattle.utils.specs.Pair.{unequalVerdict, pairLetters, pairTests, loopsVerdict, pairSum, pairVerdict}
 
 length-tabled : (dna : List ℕ) → Tabled (lengthVerdict dna)
@@ -22,10 +22,13 @@ length-tabled dna = tabled-if (ltb 256 (length dna)) 13 [] refl
 letters-tabled : (sequence : ℕ) (dna : List ℕ) → Tabled (lettersVerdict sequence dna)
 letters-tabled sequence dna = tabled-if (ltb (firstBad dna) (length dna)) 11 _ refl
 
+pub sequence-tabled : (sequence : ℕ) (dna : List ℕ) → Tabled (sequenceVerdict sequence dna)
+sequence-tabled sequence dna =
+    tabled-then (lengthVerdict dna) (lettersVerdict sequence dna ▷ shortVerdict dna) (length-tabled dna)
+    (tabled-then (lettersVerdict sequence dna) (shortVerdict dna) (letters-tabled sequence dna) (tabled-if (ltb (length dna) 2) 12 [] refl))
+
 pub single-tabled : (dna : List ℕ) → Tabled (singleVerdict dna)
-single-tabled dna =
-    tabled-then (lengthVerdict dna) (lettersVerdict 0 dna ▷ shortVerdict dna) (length-tabled dna)
-    (tabled-then (lettersVerdict 0 dna) (shortVerdict dna) (letters-tabled 0 dna) (tabled-if (ltb (length dna) 2) 12 [] refl))
+single-tabled dna = sequence-tabled 0 dna
 
 pub single-at-tabled : (dna : List ℕ) (kelvin : Float) → Tabled (singleAtVerdict dna kelvin)
 single-at-tabled dna kelvin =

@@ -26,9 +26,13 @@ singleEnergy dna = addEnergy (stepsSum dna (length dna - 1)) start
 abbrev pub shortVerdict : List ℕ → Verdict
 shortVerdict dna = refuseIf (ltb (length dna) 2) 12 []
 
--- the 256-letter limit, letters, shortness; a single sequence is sequence 0
+-- the 256-letter limit, letters of the sequence with this number, shortness
+abbrev pub sequenceVerdict : ℕ → List ℕ → Verdict
+sequenceVerdict sequence dna = lengthVerdict dna ▷ lettersVerdict sequence dna ▷ shortVerdict dna
+
+-- a single sequence is sequence 0
 abbrev pub singleVerdict : List ℕ → Verdict
-singleVerdict dna = lengthVerdict dna ▷ lettersVerdict 0 dna ▷ shortVerdict dna
+singleVerdict dna = sequenceVerdict 0 dna
 
 abbrev pub stringDnaDgDs : List ℕ → BaseEnergyAnswer
 stringDnaDgDs dna = baseEnergyAnswer (singleVerdict dna) (singleEnergy dna)

@@ -78,7 +78,7 @@ pub fn string_dna_hundredths(dna: &[u8]) -> HundredthsAnswer
     ensures refusal { λ r. ⌜ Prints (hundredthsRefusal r) (singleVerdict (now (dna .entry))) ⌝ }
     ensures answer { λ r. ⌜ r ≡ stringDnaHundredths (now (dna .entry)) ⌝ }
 {
-    match check_single(dna) {
+    match check_single(dna, 0) {
         Check::Refused(r) => HundredthsAnswer::Refused(r),
         Check::Passed => HundredthsAnswer::Hundredths(single_hundredths(dna)),
     }

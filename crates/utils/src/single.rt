@@ -4,7 +4,7 @@ ghost use Prim.Native.Nat.{_-_};
 ghost use lib.ListN.{length};
 ghost use Rattle.units.specs.Refusals.{check, Prints};
 ghost use Rattle.units.specs.Answers.{baseEnergyRefusal, energyRefusal};
-ghost use Rattle.utils.specs.Single.{stepsSum, singleEnergy, singleVerdict, singleAtVerdict, stringDnaDgDs, stringDnaDeltaG};
+ghost use Rattle.utils.specs.Single.{stepsSum, singleEnergy, sequenceVerdict, singleVerdict, singleAtVerdict, stringDnaDgDs, stringDnaDeltaG};
 use bases::letters::DnaNucleotideBase;
 use bases::letters::check_length;
 use bases::letters::check_letters;
@@ -37,15 +37,15 @@ fn single_sequence_dg_ds(dna: &[u8]) -> BaseEnergy
     sum
 }
 
-// What is refused of one sequence: over 256 letters, a bad letter, under 2 letters.
-pub fn check_single(dna: &[u8]) -> Check
-    ensures { λ r. ⌜ r ≡ check (singleVerdict (now (dna .entry))) ⌝ }
+// What is refused of one sequence, whose number 11 names: over 256 letters, a bad letter, under 2 letters.
+pub fn check_single(dna: &[u8], sequence: usize) -> Check
+    ensures { λ r. ⌜ r ≡ check (sequenceVerdict sequence (now (dna .entry))) ⌝ }
 {
     match check_length(dna) {
         Check::Refused(r) => return Check::Refused(r),
         Check::Passed => (),
     }
-    match check_letters(dna, 0) {
+    match check_letters(dna, sequence) {
         Check::Refused(r) => return Check::Refused(r),
         Check::Passed => (),
     }
@@ -60,7 +60,7 @@ pub fn check_single(dna: &[u8]) -> Check
 }
 
 // The energy of a sequence: its steps, then the start term.
-fn single_energy(dna: &[u8]) -> BaseEnergy
+pub fn single_energy(dna: &[u8]) -> BaseEnergy
     ensures { λ r. ⌜ r ≡ singleEnergy (now (dna .entry)) ⌝ }
 {
     add_energy(single_sequence_dg_ds(dna), start())
@@ -71,7 +71,7 @@ pub fn string_dna_dg_ds(dna: &[u8]) -> BaseEnergyAnswer
     ensures refusal { λ r. ⌜ Prints (baseEnergyRefusal r) (singleVerdict (now (dna .entry))) ⌝ }
     ensures answer { λ r. ⌜ r ≡ stringDnaDgDs (now (dna .entry)) ⌝ }
 {
-    match check_single(dna) {
+    match check_single(dna, 0) {
         Check::Refused(r) => BaseEnergyAnswer::Refused(r),
         Check::Passed => BaseEnergyAnswer::Found(single_energy(dna)),
     }
@@ -83,7 +83,7 @@ fn check_single_at(dna: &[u8], kelvin: f64) -> Check
 {
     match check_kelvin(kelvin) {
         Check::Refused(r) => Check::Refused(r),
-        Check::Passed => check_single(dna),
+        Check::Passed => check_single(dna, 0),
     }
 }
 

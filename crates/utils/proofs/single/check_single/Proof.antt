@@ -5,7 +5,7 @@ use mathlib.Core.Path.{_≡_, _∙_}
 use denote.Ref.{now}
 use Rattle.units.specs.Refusals.{_▷_}
 use Rattle.bases.specs.Letters.{lengthVerdict, lettersVerdict}
-use Rattle.utils.specs.Single.{shortVerdict, singleVerdict}
+use Rattle.utils.specs.Single.{shortVerdict, sequenceVerdict}
 use Rattle.units.proofs.Verdicts.{refused-first, passed-first}
 use Rattle.utils.proofs.single.check_single.Statement.{statement}
 use Rattle.utils.proofs.single.check_single.Tie as tie
@@ -20,7 +20,8 @@ returns : tie.Need-returns
 returns c =
     let start = c .before .before .before in
     let dna = now (start .before .before .args .dna) in
-    refused-first (lengthVerdict dna) (lettersVerdict 0 dna ▷ shortVerdict dna) (start .check-length .ensures) (c .before .r .given .1)
+    let which = start .before .before .args .sequence in
+    refused-first (lengthVerdict dna) (lettersVerdict which dna ▷ shortVerdict dna) (start .check-length .ensures) (c .before .r .given .1)
 
 enum-told : tie.Need-enum-told
 enum-told c = search needs
@@ -32,23 +33,26 @@ enum-known-r-2 : tie.Need-enum-known-r-2
 enum-known-r-2 c = search needs
 
 -- past the first test, and past the second
-one-passed : (c : tie.After-enum-told) → let dna = now (c .before .before .before .before .args .dna) in singleVerdict dna ≡ lettersVerdict 0 dna ▷ shortVerdict dna
+one-passed : (c : tie.After-enum-told) → let a = c .before .before .before .before .args in sequenceVerdict (a .sequence) (now (a .dna)) ≡ lettersVerdict (a .sequence) (now (a .dna)) ▷ shortVerdict (now (a .dna))
 one-passed c =
     let first = c .before .before in
     let dna = now (first .before .before .args .dna) in
-    passed-first (lengthVerdict dna) (lettersVerdict 0 dna ▷ shortVerdict dna) (first .check-length .ensures) (c .enum-told .given .1)
+    let which = first .before .before .args .sequence in
+    passed-first (lengthVerdict dna) (lettersVerdict which dna ▷ shortVerdict dna) (first .check-length .ensures) (c .enum-told .given .1)
 
-two-passed : (c : tie.After-enum-told2) → let dna = now (c .before .before .before .before .before .before .before .args .dna) in singleVerdict dna ≡ shortVerdict dna
+two-passed : (c : tie.After-enum-told2) → let a = c .before .before .before .before .before .before .before .args in sequenceVerdict (a .sequence) (now (a .dna)) ≡ shortVerdict (now (a .dna))
 two-passed c =
     let second = c .before .before in
     let dna = now (second .before .before .before .before .before .args .dna) in
-    one-passed (second .before) ∙ passed-first (lettersVerdict 0 dna) (shortVerdict dna) (second .check-letters .ensures) (c .enum-told2 .given .1)
+    let which = second .before .before .before .before .before .args .sequence in
+    one-passed (second .before) ∙ passed-first (lettersVerdict which dna) (shortVerdict dna) (second .check-letters .ensures) (c .enum-told2 .given .1)
 
 returns-2 : tie.Need-returns-2
 returns-2 c =
     let second = c .before .before .before in
     let dna = now (second .before .before .before .before .before .args .dna) in
-    rw (one-passed (second .before)) (refused-first (lettersVerdict 0 dna) (shortVerdict dna) (second .check-letters .ensures) (c .before .r2 .given .1))
+    let which = second .before .before .before .before .before .args .sequence in
+    rw (one-passed (second .before)) (refused-first (lettersVerdict which dna) (shortVerdict dna) (second .check-letters .ensures) (c .before .r2 .given .1))
 
 enum-told-2 : tie.Need-enum-told-2
 enum-told-2 c = search needs
