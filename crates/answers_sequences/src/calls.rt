@@ -16,41 +16,41 @@ fn text_field(line: &[u8], key: &[u8], room: &mut [u8]) -> Count {
     text_into(field(line, key), room)
 }
 
-pub fn string_dna_dg_ds(line: &[u8], out: &mut [u8]) -> usize {
+pub(crate) fn string_dna_dg_ds(line: &[u8], out: &mut [u8]) -> usize {
     let mut dna = [0u8; 1024];
     let Count::Of(n) = text_field(line, b"dna", &mut dna) else {
-        return answers::unreadable(out);
+        return answer_lines::unreadable(out);
     };
     answers::base_energy(out, utils::string_dna_dg_ds(first_bytes(&dna, n)))
 }
 
-pub fn string_dna_delta_g(line: &[u8], out: &mut [u8]) -> usize {
+pub(crate) fn string_dna_delta_g(line: &[u8], out: &mut [u8]) -> usize {
     let mut dna = [0u8; 1024];
     let Count::Of(n) = text_field(line, b"dna", &mut dna) else {
-        return answers::unreadable(out);
+        return answer_lines::unreadable(out);
     };
     let FloatValue::Of(kelvin) = float(field(line, b"kelvin")) else {
-        return answers::unreadable(out);
+        return answer_lines::unreadable(out);
     };
     answers::energy(out, utils::string_dna_delta_g(first_bytes(&dna, n), kelvin))
 }
 
-pub fn string_dna_hundredths(line: &[u8], out: &mut [u8]) -> usize {
+pub(crate) fn string_dna_hundredths(line: &[u8], out: &mut [u8]) -> usize {
     let mut dna = [0u8; 1024];
     let Count::Of(n) = text_field(line, b"dna", &mut dna) else {
-        return answers::unreadable(out);
+        return answer_lines::unreadable(out);
     };
     answers::hundredths(out, utils::string_dna_hundredths(first_bytes(&dna, n)))
 }
 
-pub fn sequence_pair_str_dg_ds(line: &[u8], out: &mut [u8]) -> usize {
+pub(crate) fn sequence_pair_str_dg_ds(line: &[u8], out: &mut [u8]) -> usize {
     let mut a = [0u8; 1024];
     let Count::Of(m) = text_field(line, b"a", &mut a) else {
-        return answers::unreadable(out);
+        return answer_lines::unreadable(out);
     };
     let mut b = [0u8; 1024];
     let Count::Of(n) = text_field(line, b"b", &mut b) else {
-        return answers::unreadable(out);
+        return answer_lines::unreadable(out);
     };
     answers::base_energy(
         out,

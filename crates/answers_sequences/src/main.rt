@@ -25,7 +25,7 @@ fn answer(line: &[u8], out: &mut [u8]) -> usize {
     if same(call, b"sequence_pair_str_dg_ds") {
         return calls::sequence_pair_str_dg_ds(line, out);
     }
-    answers::unreadable(out)
+    answer_lines::unreadable(out)
 }
 
 // Writes the answer to one line, if it is a case.

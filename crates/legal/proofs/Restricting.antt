@@ -32,7 +32,7 @@ list-shape bays true offsets tiles p e =
     let d = eqb (getD offsets bays 0) (length tiles) in
     record {
       count = eqb-true (length offsets) (bays + 1) (and-left a (b && (c && d)) e);
-      fit = and-left c d (and-right b (c && d) (and-right a (b && (c && d)) e))
+      fit = and-left c d (and-right b (c && d) (and-right a (b && (c && d)) e));
     }
 list-shape bays false offsets tiles p e = absurd (true≢false (sym p))
 

@@ -20,7 +20,7 @@ module _ (cols : ℕ) (seeds : List ℕ) (bay at : ℕ) (found : Seed) where
       ≡ later (seedAt cols (drop (at + 3) seeds) bay)
       (later (cond (eqb (getD seeds at 0 * cols + getD seeds (at + 1) 0) bay) (Seeded (getD seeds (at + 2) 0)) Unseeded) found)
   unfolding seedAt
-  seed-counts h = 
+  seed-counts h =
       rw (three at seeds h)
       (later-later (seedAt cols (drop (at + 3) seeds) bay)
       (cond (eqb (getD seeds at 0 * cols + getD seeds (at + 1) 0) bay) (Seeded (getD seeds (at + 2) 0)) Unseeded) found)

@@ -19,7 +19,14 @@ pub fn list_set(tiles: &[u32]) -> u64
 }
 
 // The strands of a set that a bay's list keeps: all where there is no list, or an empty one.
-pub fn restricted(set: u64, bays: usize, constrained: bool, offsets: &[usize], tiles: &[u32], bay: usize) -> u64
+pub fn restricted(
+    set: u64,
+    bays: usize,
+    constrained: bool,
+    offsets: &[usize],
+    tiles: &[u32],
+    bay: usize,
+) -> u64
     requires { ⌜ offsetsShaped bays (constraints constrained (now offsets) (now tiles)) ≡ true ⌝ }
     requires { ⌜ bay < bays ⌝ }
     ensures { λ r. ⌜ r ≡ word (λ t. has set t && listAllows (listOf (constraints constrained (now (offsets .entry)) (now (tiles .entry))) bay) t) 64 ⌝ }

@@ -42,5 +42,5 @@ fine s e =
       shape = shaped s (first-passes (sizesVerdict s) (glues ▷ energies ▷ seeds) e);
       strand-glues = all-below 2 0 (s .sizes .glues) (s .strandGlues) (first-passes first second g);
       scaffold = all-below 2 (length (s .strandGlues)) (s .sizes .glues) (s .scaffold) (rest-passes first second g);
-      seeds = ltb-false (firstBadSeed (s .sizes) (s .seeds)) (length (s .seeds) / 3) (no-fault (ltb (firstBadSeed (s .sizes) (s .seeds)) (length (s .seeds) / 3)) 4 _ last)
+      seeds = ltb-false (firstBadSeed (s .sizes) (s .seeds)) (length (s .seeds) / 3) (no-fault (ltb (firstBadSeed (s .sizes) (s .seeds)) (length (s .seeds) / 3)) 4 _ last);
     }

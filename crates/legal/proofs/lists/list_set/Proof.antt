@@ -49,10 +49,11 @@ loop-again : tie.Need-loop-again Inv-loop μ-loop
 loop-again c =
     let turn = c .before .before in
     let tiles = now (turn .before .before .before .before .args .tiles) in
-    let i = turn .before .loop .i in
-    (omega arith,
-    name-more (names (take i tiles)) 64 (getD tiles i 0) (turn .before .loop .set) (c .with .result) (turn .before .loop .inv .1) (c .with .ensures)
-    ∙ word-same (λ s. names (take i tiles) s || eqb s (getD tiles i 0)) (names (take (i + 1) tiles)) 64 (λ t h. sym (names-more tiles i t (turn .loop-test .taken))))
+    let i = turn .before .loop .i in (
+      omega arith,
+      name-more (names (take i tiles)) 64 (getD tiles i 0) (turn .before .loop .set) (c .with .result) (turn .before .loop .inv .1) (c .with .ensures)
+          ∙ word-same (λ s. names (take i tiles) s || eqb s (getD tiles i 0)) (names (take (i + 1) tiles)) 64 (λ t h. sym (names-more tiles i t (turn .loop-test .taken))),
+    )
 
 returns : tie.Need-returns Inv-loop μ-loop
 returns c =

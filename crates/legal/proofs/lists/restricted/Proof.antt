@@ -46,12 +46,13 @@ between : (c : tie.Else1) → let a = c .before .before .before .args in
 between c =
     let start = c .before .before .before in
     let shape = shaped c in
-    let small : start .args .bay + 1 < length (now (start .args .offsets)) = omega (arith, shape .count, start .pre .1) in
-    (entry-starts (length (now (start .args .tiles))) (now (start .args .offsets)) (start .args .bay) (shape .fit) small,
-    offset-within (length (now (start .args .tiles))) (now (start .args .offsets)) (start .args .bay + 1) (shape .fit) small)
+    let small : start .args .bay + 1 < length (now (start .args .offsets)) = omega (arith, shape .count, start .pre .1) in (
+      entry-starts (length (now (start .args .tiles))) (now (start .args .offsets)) (start .args .bay) (shape .fit) small,
+      offset-within (length (now (start .args .tiles))) (now (start .args .offsets)) (start .args .bay + 1) (shape .fit) small,
+    )
 
 returns : tie.Need-returns
-returns c = 
+returns c =
     let start = c .before .before .before in
     let a = start .args in
     kept-whole (a .set) (listOf (constraints (a .constrained) (now (a .offsets)) (now (a .tiles))) (a .bay)) (start .fits .set .fits)
@@ -73,7 +74,7 @@ shared-slice-read-to : tie.Need-shared-slice-read-to
 shared-slice-read-to c = let shape = shaped (c .before .before) in omega (arith, shape .count, c .before .before .before .before .before .pre .1)
 
 returns-2 : tie.Need-returns-2
-returns-2 c = 
+returns-2 c =
     let start = c .before .before .before .before .before .before in
     let a = start .args in
     kept-whole (a .set) (listOf (constraints (a .constrained) (now (a .offsets)) (now (a .tiles))) (a .bay)) (start .fits .set .fits)

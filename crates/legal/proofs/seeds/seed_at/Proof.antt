@@ -47,12 +47,12 @@ cast-col : tie.Need-cast-col Inv-loop μ-loop
 cast-col c = omega (arith, c .shared-slice-known3 .given (c .before .before .before .loop .at + 1))
 
 mul-after-seed : tie.Need-mul-after-seed Inv-loop μ-loop
-mul-after-seed c = 
+mul-after-seed c =
     let row = getD (now (c .before .before .before .before .before .args .seeds)) (c .before .before .before .loop .at) 0 in
     omega (arith, c .before .shared-slice-known2 .given (c .before .before .before .loop .at), mul-le-mul-left row (c .before .before .before .before .before .pre .1))
 
 add-after-seed : tie.Need-add-after-seed Inv-loop μ-loop
-add-after-seed c = 
+add-after-seed c =
     let row = getD (now (c .before .before .before .before .before .args .seeds)) (c .before .before .before .loop .at) 0 in
     omega (arith, c .before .shared-slice-known2 .given (c .before .before .before .loop .at), mul-le-mul-left row (c .before .before .before .before .before .pre .1), c .shared-slice-known3 .given (c .before .before .before .loop .at + 1))
 
@@ -75,18 +75,21 @@ loop-less : tie.Need-loop-less Inv-loop μ-loop
 loop-less c = omega arith
 
 loop-again : tie.Need-loop-again Inv-loop μ-loop
-loop-again c = 
+loop-again c =
     let turn = c .before .before .before .before in
     let start = turn .before .before .before in
-    let more = two-more turn in
-    (omega arith,
-    (omega arith,
-    turn .before .loop .inv .1 .1
-    ∙ seed-counts (start .args .cols) (now (start .args .seeds)) (start .args .bay) (turn .before .loop .at) (turn .before .loop .found) more
-    ∙ ap (later (seedAt (start .args .cols) (drop (turn .before .loop .at + 3) (now (start .args .seeds))) (start .args .bay))) (sym (c .after-seed .ensures))))
+    let more = two-more turn in (
+      omega arith,
+      (
+        omega arith,
+        turn .before .loop .inv .1 .1
+            ∙ seed-counts (start .args .cols) (now (start .args .seeds)) (start .args .bay) (turn .before .loop .at) (turn .before .loop .found) more
+            ∙ ap (later (seedAt (start .args .cols) (drop (turn .before .loop .at + 3) (now (start .args .seeds))) (start .args .bay))) (sym (c .after-seed .ensures)),
+      ),
+    )
 
 returns : tie.Need-returns Inv-loop μ-loop
-returns c = 
+returns c =
     let start = c .before .before .before in
     sym (c .before .loop .inv .1 .1 ∙ no-seed-left (start .args .cols) (now (start .args .seeds)) (start .args .bay) (c .before .loop .at) (c .before .loop .found) (c .loop-test .left))
 

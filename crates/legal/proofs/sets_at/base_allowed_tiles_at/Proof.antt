@@ -30,7 +30,7 @@ friends-btm-requires : tie.Need-friends-btm-requires
 friends-btm-requires c κs = search needs
 
 returns : tie.Need-returns
-returns c = 
+returns c =
     let seed = c .before .before .before .before in
     let start = seed .before .before .before .before .before .before in
     let a = start .args in
@@ -39,7 +39,7 @@ returns c =
     (seed .seed-at .ensures) (c .before .before .strand .given .1) (start .pre .1 .seed)
 
 returns-2 : tie.Need-returns-2
-returns-2 c = 
+returns-2 c =
     let seed = c .before .before .before .before in
     let a = seed .before .before .before .before .before .before .args in
     c .friends-btm .ensures

@@ -18,7 +18,7 @@ element-copy-out-cell : tie.Need-element-copy-out-cell
 element-copy-out-cell c = search needs
 
 cell-requires : tie.Need-cell-requires
-cell-requires c κs = 
+cell-requires c κs =
     let start = c .before .before .before .before .before in
     let r = start .pre .0 in
     let own = c .before .strand-glues-of .ensures in
@@ -27,7 +27,7 @@ cell-requires c κs =
       first = start .pre .1 .0;
       second = rw (own) (r .below (start .args .strand * 5 + 4) (omega arith));
       energies = r .energies;
-      entropies = r .entropies
+      entropies = r .entropies;
     }
 
 is-bond-requires : tie.Need-is-bond-requires

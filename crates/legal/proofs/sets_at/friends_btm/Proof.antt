@@ -22,12 +22,12 @@ empty-requires : tie.Need-empty-requires Inv-loop μ-loop
 empty-requires c κs = search needs
 
 loop-holds : tie.Need-loop-holds Inv-loop μ-loop
-loop-holds c = 
+loop-holds c =
     let a = c .before .before .before .before .args in
     (omega arith, c .empty .ensures ∙ build-none (mayLie (now (a .strand-glues)) (now (a .delta-g)) (now (a .entropy)) (a .glues) (a .glue)) 64)
 
 may-lie-requires : tie.Need-may-lie-requires Inv-loop μ-loop
-may-lie-requires c κs = 
+may-lie-requires c κs =
     let start = c .before .before .before .before .before .before in
     (start .pre .0, (start .pre .1, c .loop-test .taken))
 
@@ -44,18 +44,19 @@ loop-less : tie.Need-loop-less Inv-loop μ-loop
 loop-less c = omega arith
 
 loop-again : tie.Need-loop-again Inv-loop μ-loop
-loop-again c = 
+loop-again c =
     let turn = c .before .before in
     let start = turn .before .before .before .before .before .before in
     let a = start .args in
     let legal = mayLie (now (a .strand-glues)) (now (a .delta-g)) (now (a .entropy)) (a .glues) (a .glue) in
-    let few = start .pre .0 .few-strands in
-    (omega arith,
-    build-more legal 64 (turn .before .loop .t) (turn .before .loop .set) (c .with-if .result) (c .before .may-lie .result) (omega arith) (turn .before .loop .inv .1)
-    (c .before .may-lie .ensures) (c .with-if .ensures))
+    let few = start .pre .0 .few-strands in (
+      omega arith,
+      build-more legal 64 (turn .before .loop .t) (turn .before .loop .set) (c .with-if .result) (c .before .may-lie .result) (omega arith) (turn .before .loop .inv .1)
+          (c .before .may-lie .ensures) (c .with-if .ensures),
+    )
 
 returns : tie.Need-returns Inv-loop μ-loop
-returns c = 
+returns c =
     let start = c .before .before .before .before .before .before in
     let a = start .args in
     let legal = mayLie (now (a .strand-glues)) (now (a .delta-g)) (now (a .entropy)) (a .glues) (a .glue) in
