@@ -1,2 +1,3 @@
 pub mod BeforeStars
 pub mod Lists
+pub mod Found

@@ -8,3 +8,4 @@ pub use bases::glue_number;
 pub use stars::base_length;
 pub use stars::is_from;
 pub use stars::self_and_inverse;
+pub use stars::star_count;

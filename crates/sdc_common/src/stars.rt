@@ -27,7 +27,7 @@ pub fn self_and_inverse(name: &[u8]) -> &[u8]
 }
 
 // How many trailing stars a name has.
-fn star_count(name: &[u8]) -> usize
+pub fn star_count(name: &[u8]) -> usize
     ensures { λ r. ⌜ r ≡ starCount (now (name .entry)) ⌝ }
 {
     name.len() - base_length(name)

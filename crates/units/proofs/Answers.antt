@@ -14,8 +14,10 @@ use Rattle.units.specs.declared.EnergyAnswer.{EnergyAnswer}
 use Rattle.units.specs.declared.EnergyAnswer.the-variants.{Energy, Refused as Energy·Refused}
 use Rattle.units.specs.declared.HundredthsAnswer.{HundredthsAnswer}
 use Rattle.units.specs.declared.HundredthsAnswer.the-variants.{Hundredths, Refused as Hundredths·Refused}
+use Rattle.units.specs.declared.CountAnswer.{CountAnswer}
+use Rattle.units.specs.declared.CountAnswer.the-variants.{Count, Refused as Count·Refused}
 use Rattle.units.specs.Refusals.{Verdict, passes, refuses, refusal, check, Prints}
-use Rattle.units.specs.Answers.{baseEnergyAnswer, energyAnswer, hundredthsAnswer, baseEnergyRefusal, energyRefusal, hundredthsRefusal}
+use Rattle.units.specs.Answers.{baseEnergyAnswer, energyAnswer, hundredthsAnswer, countAnswer, baseEnergyRefusal, energyRefusal, hundredthsRefusal, countRefusal}
 use Rattle.units.proofs.Verdicts.{Tabled, prints}
 
 -- A kind of answer: how a verdict becomes one, the case of a refusal, and the refusal read off again.
@@ -54,5 +56,12 @@ pub in-hundredths : (z : ℤ) → Answering HundredthsAnswer (λ v. hundredthsAn
 in-hundredths z = record { refuses-so = λ number values. refl; reads-back = reads }
   where
     reads : (v : Verdict) → hundredthsRefusal (hundredthsAnswer v z) ≡ check v
+    reads passes = refl
+    reads (refuses number values) = refl
+
+pub a-count : (n : ℕ) → Answering CountAnswer (λ v. countAnswer v n) Count·Refused countRefusal
+a-count n = record { refuses-so = λ number values. refl; reads-back = reads }
+  where
+    reads : (v : Verdict) → countRefusal (countAnswer v n) ≡ check v
     reads passes = refl
     reads (refuses number values) = refl

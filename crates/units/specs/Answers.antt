@@ -1,4 +1,5 @@
 -- The answers of the public calls: a verdict and a value become one, and the refusal in it can be read off again. Assumes nothing.
+use Prim.Native.Nat.{ℕ}
 use lib.IntN.{ℤ}
 use lib.Ieee.{Float}
 use Rattle.units.specs.declared.BaseEnergy.{BaseEnergy}
@@ -10,6 +11,8 @@ use Rattle.units.specs.declared.EnergyAnswer.{EnergyAnswer}
 use Rattle.units.specs.declared.EnergyAnswer.the-variants.{Energy, Refused as Energy·Refused}
 use Rattle.units.specs.declared.HundredthsAnswer.{HundredthsAnswer}
 use Rattle.units.specs.declared.HundredthsAnswer.the-variants.{Hundredths, Refused as Hundredths·Refused}
+use Rattle.units.specs.declared.CountAnswer.{CountAnswer}
+use Rattle.units.specs.declared.CountAnswer.the-variants.{Count, Refused as Count·Refused}
 use Rattle.units.specs.Refusals.{Verdict, passes, refuses, refusal}
 
 -- the value where the tests pass, else their refusal
@@ -25,6 +28,10 @@ abbrev pub hundredthsAnswer : Verdict → ℤ → HundredthsAnswer
 hundredthsAnswer passes hundredths = Hundredths hundredths
 hundredthsAnswer (refuses number values) hundredths = Hundredths·Refused (refusal number values)
 
+abbrev pub countAnswer : Verdict → ℕ → CountAnswer
+countAnswer passes count = Count count
+countAnswer (refuses number values) count = Count·Refused (refusal number values)
+
 -- the refusal in an answer
 abbrev pub baseEnergyRefusal : BaseEnergyAnswer → Check
 baseEnergyRefusal (Found energy) = Passed
@@ -37,3 +44,7 @@ energyRefusal (Energy·Refused r) = Check·Refused r
 abbrev pub hundredthsRefusal : HundredthsAnswer → Check
 hundredthsRefusal (Hundredths hundredths) = Passed
 hundredthsRefusal (Hundredths·Refused r) = Check·Refused r
+
+abbrev pub countRefusal : CountAnswer → Check
+countRefusal (Count count) = Passed
+countRefusal (Count·Refused r) = Check·Refused r

@@ -4,3 +4,4 @@ pub mod Answers
 pub mod Kelvin
 pub mod Finite
 pub mod Places
+pub mod Glues

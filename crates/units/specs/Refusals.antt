@@ -56,6 +56,8 @@ valueRows =
     ∷ (4, 1)
     ∷ (11, 2)
     ∷ (14, 1)
+    ∷ (15, 1)
+    ∷ (16, 1)
     ∷ []
 
 -- how many a row of these has for a number, none where it has no row

@@ -46,6 +46,12 @@ pub enum HundredthsAnswer {
     Refused(Refusal),
 }
 
+// The answer of a call that gives a count.
+pub enum CountAnswer {
+    Count(usize),
+    Refused(Refusal),
+}
+
 // A temperature is taken from 200 to 500 kelvin, the ends included; a NaN is outside.
 pub fn in_kelvin_range(kelvin: f64) -> bool
     ensures { λ r. ⌜ r ≡ inKelvinRange kelvin ⌝ }

@@ -1,0 +1,71 @@
+-- What the call's contract asks, from the tests on the input and from what registering leaves. Assumes nothing.
+use Prim.Native.Nat.{ℕ, _+_, _*_}
+use mathlib.Core.Path.{_≡_, refl, ap, sym, _∙_}
+use mathlib.Core.Bool.{not}
+use mathlib.Core.List.{List, [], _∷_}
+use lib.Dec.{ltb}
+use lib.ListN.{length, getD}
+use Rattle.units.specs.declared.Refusal.{Refusal}
+use Rattle.units.specs.declared.Check.{Check}
+use Rattle.units.specs.declared.Check.the-variants.{Passed, Refused as Check·Refused}
+use Rattle.units.specs.declared.CountAnswer.{CountAnswer}
+use Rattle.units.specs.declared.CountAnswer.the-variants.{Refused}
+use Rattle.units.specs.Refusals.{Verdict, passes, _▷_, check, Prints}
+use Rattle.units.specs.Answers.{countRefusal}
+use Rattle.units.proofs.Answers.{a-count, refused, given}
+use Rattle.units.proofs.Verdicts.{Tabled, tabled-if, tabled-then, passed, refused-first, refused-keeps}
+use Rattle.registering.specs.Register.{Request, firstBay, bayCount, firstsOf, isSized, isReadable, sizesVerdict, namesVerdict, countVerdict, firstStarred, starsVerdict, registeredVerdict, inputVerdict, registerVerdict, registerAnswer, gluesAfter, scaffoldAfter, basesAfter}
+use Rattle.registering.specs.Steps.{Registered}
+use Rattle.registering.proofs.Passed.{bays}
+
+-- every refusal has the values of its row
+input-tabled : (q : Request) → Tabled (inputVerdict q)
+input-tabled q =
+    tabled-then (sizesVerdict q) (namesVerdict (q .names)) (tabled-if (not (isSized q)) 1 [] refl) (tabled-if (not (isReadable (q .names))) 17 [] refl)
+
+registered-tabled : (q : Request) → Tabled (registeredVerdict (q .names) (q .strands) (bayCount q))
+registered-tabled q =
+    let es = firstsOf (q .names) (q .strands) (bayCount q) in
+    let bay = firstStarred (q .names) (firstBay (q .strands)) 0 (bayCount q) in
+    tabled-then (countVerdict es) (starsVerdict (q .names) (firstBay (q .strands)) (bayCount q)) (tabled-if (ltb 256 (length es * 2 + 1)) 15 (getD es 127 0 ∷ []) refl) (tabled-if (ltb bay (bayCount q)) 16 (bay ∷ []) refl)
+
+register-tabled : (q : Request) → Tabled (registerVerdict q)
+register-tabled q = tabled-then (inputVerdict q) (registeredVerdict (q .names) (q .strands) (bayCount q)) (input-tabled q) (registered-tabled q)
+
+-- the clauses of the call: the refusal, the answer, and each table
+abbrev pub Answered : Request → CountAnswer → (glues scaffold bases : List ℕ) → Type 0
+Answered q answer glues scaffold bases =
+    Prints (countRefusal answer) (registerVerdict q)
+    × ((answer ≡ registerAnswer q) × ((glues ≡ gluesAfter q) × ((scaffold ≡ scaffoldAfter q) × (bases ≡ basesAfter q))))
+
+answered-so : (q : Request) {answer : CountAnswer} {glues scaffold bases : List ℕ} → answer ≡ registerAnswer q → glues ≡ gluesAfter q → scaffold ≡ scaffoldAfter q → bases ≡ basesAfter q
+    → Answered q answer glues scaffold bases
+answered-so q e g s b =
+    let shown = given (a-count (length (firstsOf (q .names) (q .strands) (bayCount q)))) (registerVerdict q) (register-tabled q) e in
+    (shown .0, (e, (g, (s, b))))
+
+module _ (q : Request) {x : Check} (t : x ≡ check (inputVerdict q)) where
+  -- the input is refused
+  pub input-refused : {r : Refusal} → x ≡ Check·Refused r → Answered q (Refused r) (q .glues) (q .scaffold) (q .bases)
+  input-refused e =
+      let later = registeredVerdict (q .names) (q .strands) (bayCount q) in
+      let first = refused-first (inputVerdict q) later t e in
+      answered-so q
+      (refused (a-count (length (firstsOf (q .names) (q .strands) (bayCount q)))) (registerVerdict q) first refl)
+      (refused-keeps (registerVerdict q) _ (q .glues) first refl)
+      (refused-keeps (registerVerdict q) _ (q .scaffold) first refl)
+      (refused-keeps (registerVerdict q) _ (q .bases) first refl)
+
+  -- the input has passed
+  pub input-passed : x ≡ Passed → inputVerdict q ≡ passes
+  input-passed e = passed (inputVerdict q) t e
+
+  pub input-registered : x ≡ Passed → {answer : CountAnswer} {glues scaffold bases : List ℕ} → Registered (q .names) (q .strands) answer (q .glues) (q .scaffold) (q .bases) glues scaffold bases
+      → Answered q answer glues scaffold bases
+  input-registered e w =
+      let p = input-passed e in
+      answered-so q
+      (rw (p, ← bays q p) (w .answered))
+      (rw (p, ← bays q p) (w .strands-written))
+      (rw (p, ← bays q p) (w .scaffold-written))
+      (rw (p, ← bays q p) (w .bases-written))

@@ -1,0 +1,27 @@
+-- Which entries bring a new base, and the bases that they bring. Assumes nothing.
+use Prim.Native.Nat.{ℕ, zero, suc, _+_}
+use mathlib.Core.Bool.{Bool, cond, _&&_}
+use mathlib.Core.List.{List, [], _∷_, _++_}
+use lib.Dec.{eqb}
+use lib.ListN.{length, getD}
+use Rattle.sdc_common.specs.Stars.{baseLength, baseOf}
+use Rattle.sdc_common.specs.Bases.{findBase}
+use Rattle.registering.specs.Names.{Names, nameAt, isPresent}
+
+-- the bases of these entries, as offset and length of each
+unfoldable pub basesOf : Names → List ℕ → List ℕ
+basesOf n [] = []
+basesOf n (i ∷ entries) = getD (n .offsets) i 0 ∷ baseLength (nameAt n i) ∷ basesOf n entries
+
+-- the place of entry i's base in a list of bases, first match counting, or their count where it is not there
+abbrev pub placeOf : Names → (bases : List ℕ) → (count : ℕ) → ℕ → ℕ
+placeOf n bases count i = findBase (n .text) bases count (baseOf (nameAt n i))
+
+-- entry i has a name whose base is not in the list
+abbrev pub isNew : Names → (bases : List ℕ) → (count : ℕ) → ℕ → Bool
+isNew n bases count i = isPresent n i && eqb (placeOf n bases count i) count
+
+-- the entries, of the first k, that bring a new base
+unfoldable pub firstsTo : Names → ℕ → List ℕ
+firstsTo n zero = []
+firstsTo n (suc i) = firstsTo n i ++ cond (isNew n (basesOf n (firstsTo n i)) (length (firstsTo n i)) i) (i ∷ []) []
