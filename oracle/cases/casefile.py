@@ -3,7 +3,8 @@
 import struct
 
 PLAIN = frozenset(range(0x21, 0x7F)) - frozenset(b"%,")
-HEX = frozenset(b"0123456789abcdef")
+DIGITS = frozenset(b"0123456789")
+HEX = DIGITS | frozenset(b"abcdef")
 
 
 class Unreadable(Exception):
@@ -17,6 +18,11 @@ def write_text(raw):
 
 def write_float(value):
     return struct.pack(">d", value).hex()
+
+
+def write_list(items):
+    """Numbers, or what is written already, as a list."""
+    return ",".join(map(str, items))
 
 
 def lines(data):
@@ -51,10 +57,49 @@ def read_text(fields, key):
 
 
 def read_float(fields, key):
+    return _float(_value(fields, key))
+
+
+def read_number(fields, key):
+    return _number(_value(fields, key))
+
+
+def read_numbers(fields, key):
+    return [_number(item) for item in _items(fields, key)]
+
+
+def read_bytes(fields, key):
+    """A list of numbers below 256."""
+    numbers = read_numbers(fields, key)
+    if any(number > 255 for number in numbers):
+        raise Unreadable
+    return numbers
+
+
+def read_floats(fields, key):
+    return [_float(item) for item in _items(fields, key)]
+
+
+def read_or(fields, key, read, missing):
+    """What a field holds, or `missing` where the case does not have it."""
+    return read(fields, key) if key.encode() in fields else missing
+
+
+def _items(fields, key):
     value = _value(fields, key)
+    return value.split(b",") if value else []
+
+
+def _float(value):
     if len(value) != 16 or not HEX.issuperset(value):
         raise Unreadable
     return struct.unpack(">d", bytes.fromhex(value.decode()))[0]
+
+
+def _number(value):
+    if not 1 <= len(value) <= 20 or not DIGITS.issuperset(value) or int(value) >= 2**64:
+        raise Unreadable
+    return int(value)
 
 
 def _value(fields, key):

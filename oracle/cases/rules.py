@@ -5,11 +5,9 @@ there, so that `oracle/freeze.py` can hold every line of its answers against it:
 difference under which it answers.
 """
 
-from dataclasses import dataclass
+from casefile import read_float, read_text
+from verdicts import PANICS, Verdict, judged
 
-from casefile import Unreadable, read_float, read_line, read_text
-
-PANICS = "panics"
 LONG = "over 256 letters"
 WARM = "kelvin outside 200 to 500"
 BETWEEN = "loop length that is not tabled"
@@ -36,28 +34,6 @@ STEPS = {
 STEP = {step.encode(): value for steps, value in STEPS.items() for step in steps.split()}
 
 
-@dataclass
-class Verdict:
-    """The line that 01 gives, or None where the Rust's is to be taken, and what the Rust has to answer:
-    `answer`, `panic`, `none` or `unreadable`. `difference` names the recorded one, where there is one."""
-
-    line: str | None
-    rust: str
-    difference: str | None = None
-
-
-def verdict_of(line):
-    """A case's call, and the verdict on it."""
-    call = ""
-    try:
-        call, fields = read_line(line)
-        if call not in CALLS:
-            raise Unreadable
-        return call, CALLS[call](fields)
-    except Unreadable:
-        return call, Verdict("unreadable", "unreadable")
-
-
 def _letters(which, dna):
     """Refusal 11: the first letter that is none."""
     for place, letter in enumerate(dna):
@@ -74,9 +50,9 @@ def _limit(*sequences):
     return [("refused 13", LONG)] if max(map(len, sequences)) > LIMIT else []
 
 
-def _single(dna):
+def single(dna, which=0):
     """What one sequence is refused for, in 01's order."""
-    return _limit(dna) + _letters(0, dna) + ([("refused 12", PANICS)] if len(dna) < 2 else [])
+    return _limit(dna) + _letters(which, dna) + ([("refused 12", PANICS)] if len(dna) < 2 else [])
 
 
 def _pair(a, b):
@@ -106,43 +82,25 @@ def _loops(a, b):
     return [(f"refused 14 {missing[0]}", PANICS if 2 in missing else BETWEEN)] if missing else []
 
 
-def _asked(reasons, *sequences):
-    """The verdict on a call that the Rust has: its `str` cannot hold bytes that are no UTF-8."""
-    line = reasons[0][0] if reasons else None
-    if not all(map(_is_utf8, sequences)):
-        return Verdict(line, "none")
-    if any(rust == PANICS for _, rust in reasons):
-        return Verdict(line, "panic")
-    return Verdict(line, "answer", reasons[0][1] if reasons else None)
-
-
-def _is_utf8(raw):
-    try:
-        raw.decode("utf-8")
-    except UnicodeDecodeError:
-        return False
-    return True
-
-
 def _dg_ds(fields):
     dna = read_text(fields, "dna")
-    return _asked(_single(dna), dna)
+    return judged(single(dna), [dna])
 
 
 def _delta_g(fields):
     dna, kelvin = read_text(fields, "dna"), read_float(fields, "kelvin")
-    return _asked(_temperature(kelvin) + _single(dna), dna)
+    return judged(_temperature(kelvin) + single(dna), [dna])
 
 
 def _pair_dg_ds(fields):
     a, b = read_text(fields, "a"), read_text(fields, "b")
-    return _asked(_pair(a, b), a, b)
+    return judged(_pair(a, b), [a, b])
 
 
 def _hundredths(fields):
     """A call that the Rust lacks: the answer is whole numbers and is 01's own."""
     dna = read_text(fields, "dna")
-    reasons = _single(dna)
+    reasons = single(dna)
     return Verdict(reasons[0][0] if reasons else f"hundredths {hundredths(dna.upper())}", "none")
 
 

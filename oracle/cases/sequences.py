@@ -7,13 +7,13 @@
 How many cases each kind has goes to standard error.
 """
 
-import argparse
 import sys
 from itertools import product
 
 sys.dont_write_bytecode = True
 from casefile import write_float, write_text
 from draw import BAD, KELVINS, NAN, OTHERS, OUTSIDE, Draw
+from generate import generate
 from rules import PARTNER, TABLED
 
 LIMITS = [0, 1, 2, 255, 256, 257]
@@ -234,25 +234,5 @@ def any_case(draw):
     return pair(a, b)
 
 
-def main():
-    options = argparse.ArgumentParser(usage="sequences.py [--large N --seed S]")
-    options.add_argument("--large", type=int)
-    options.add_argument("--seed", type=int, default=1)
-    chosen = options.parse_args()
-    draw = Draw(chosen.seed)
-    if chosen.large is not None:
-        for _ in range(chosen.large):
-            print(any_case(draw))
-        return
-    print("# Written by oracle/cases/sequences.py: add a case there. oracle/README.md says where the answers come from.")
-    total = 0
-    for section in SECTIONS:
-        cases = list(section(draw))
-        print(f"# {' '.join(section.__doc__.split())}", *cases, sep="\n")
-        print(f"{len(cases):8} {section.__name__}", file=sys.stderr)
-        total += len(cases)
-    print(f"{total:8} cases", file=sys.stderr)
-
-
 if __name__ == "__main__":
-    main()
+    generate("sequences", SECTIONS, any_case, Draw)

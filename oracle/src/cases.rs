@@ -42,8 +42,20 @@ impl<'a> Case<'a> {
         float(self.value(key)?).ok_or(Stop::Unreadable)
     }
 
-    /// For the calls on names and systems to come.
-    #[allow(dead_code)]
+    pub fn number(&self, key: &str) -> Result<u64, Stop> {
+        number(self.value(key)?).ok_or(Stop::Unreadable)
+    }
+
+    /// What a field holds, or `missing` where the case does not have it.
+    pub fn or<T>(&self, key: &str, read: fn(&Self, &str) -> Result<T, Stop>, missing: T) -> Result<T, Stop> {
+        let there = self.fields.iter().any(|(name, _)| *name == key.as_bytes());
+        if there {
+            read(self, key)
+        } else {
+            Ok(missing)
+        }
+    }
+
     pub fn list<T>(&self, key: &str, item: fn(&[u8]) -> Option<T>) -> Result<Vec<T>, Stop> {
         let value = self.value(key)?;
         let items = value.split(|&byte| byte == b',').filter(|_| !value.is_empty());
@@ -56,10 +68,13 @@ pub fn utf8(bytes: Vec<u8>) -> Result<String, Stop> {
     String::from_utf8(bytes).map_err(|_| Stop::NoSuchCall)
 }
 
-#[allow(dead_code)]
 pub fn number(value: &[u8]) -> Option<u64> {
     let plain = (1..=20).contains(&value.len()) && value.iter().all(u8::is_ascii_digit);
     std::str::from_utf8(value).ok().filter(|_| plain)?.parse().ok()
+}
+
+pub fn byte(value: &[u8]) -> Option<u8> {
+    number(value)?.try_into().ok()
 }
 
 /// Hexadecimal digits in lower case, and no other sign.
@@ -96,6 +111,18 @@ pub fn text(value: &[u8]) -> Option<Vec<u8>> {
         }
     }
     Some(bytes)
+}
+
+/// A text of an answer.
+pub fn written(text: &[u8]) -> String {
+    let plain = |byte: u8| (0x21..=0x7e).contains(&byte) && byte != b'%' && byte != b',';
+    let sign = |&byte: &u8| if plain(byte) { char::from(byte).to_string() } else { format!("%{byte:02x}") };
+    text.iter().map(sign).collect()
+}
+
+/// A list of an answer.
+pub fn listed<T: ToString>(items: &[T]) -> String {
+    items.iter().map(T::to_string).collect::<Vec<_>>().join(",")
 }
 
 /// A float of an answer.

@@ -21,6 +21,7 @@ mod state;
 mod system;
 
 mod cases;
+mod names;
 mod reach;
 mod sequences;
 
@@ -37,6 +38,11 @@ const CALLS: &[(&str, Call)] = &[
     ("string_dna_delta_g", sequences::string_dna_delta_g),
     ("string_dna_hundredths", sequences::string_dna_hundredths),
     ("sequence_pair_str_dg_ds", sequences::sequence_pair_str_dg_ds),
+    ("self_and_inverse", names::self_and_inverse),
+    ("register", names::register),
+    ("energy_keys", names::energy_keys),
+    ("tile_name", names::tile_name),
+    ("seeds_by_name", names::seeds_by_name),
 ];
 
 /// The answer line of a case. A panic counts as the Rust's only while the question runs.

@@ -20,7 +20,7 @@ pub fn constants(out: &mut impl Write) -> Result<()> {
 }
 
 /// A strand of concentration 1, whose logarithm is 0.
-fn strand(name: Option<&str>, glues: [Option<&str>; 5]) -> SDC2DStrand {
+pub fn strand(name: Option<&str>, glues: [Option<&str>; 5]) -> SDC2DStrand {
     let [north_glue, east_glue, south_glue, west_glue, bottom_glue] = glues.map(|glue| glue.map(String::from));
     let (name, color) = (name.map(String::from), None);
     SDC2DStrand { name, color, concentration: 1.0, north_glue, east_glue, south_glue, west_glue, bottom_glue }
