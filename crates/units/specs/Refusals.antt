@@ -58,6 +58,7 @@ valueRows =
     ∷ (14, 1)
     ∷ (15, 1)
     ∷ (16, 1)
+    ∷ (18, 1)
     ∷ []
 
 -- how many a row of these has for a number, none where it has no row

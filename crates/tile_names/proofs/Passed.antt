@@ -1,0 +1,66 @@
+-- What passed tests tell of names, and where the parts that are shown lie. Assumes nothing.
+use Prim.Native.Nat.{ℕ, zero, suc, _+_, _-_, _≤_, _<_}
+use mathlib.Core.Path.{_≡_, refl, sym, _∙_, ap}
+use mathlib.Core.Bool.{Bool, true, false, cond, not, _&&_}
+use mathlib.Core.List.{List, [], _∷_}
+use native.Mathlib.Omega.{arith}
+use lib.Dec.{leb, ltb, eqb}
+use lib.ListN.{length, getD}
+use borrow.Author.Tests.{leb-true, eqb-true, not-true, not-false}
+use Rattle.entries.specs.Entries.{entryOf, offsetsFit, areFlags, sameBytes}
+use Rattle.entries.proofs.Same.{both, same-equal}
+use Rattle.tile_names.specs.Numerals.{numeralsFrom, numeralsText}
+use Rattle.tile_names.specs.Names.{Names, names, namesSized, nullName, nullFirst, namesRead, Readable}
+
+-- a test that the code made and found to fail, or to hold
+pub fails : {t b : Bool} → t ≡ b → not t ≡ true → b ≡ false
+fails {t} e h = sym e ∙ not-true t h
+
+pub holds : {t b : Bool} → t ≡ b → not t ≡ false → b ≡ true
+holds {t} e h = sym e ∙ not-false t h
+
+-- the sizes and counts of names that passed
+pub record Sized (strands : ℕ) (text offsets present : List ℕ) : Type 0 where
+  pub some : 1 ≤ strands
+  pub few : strands ≤ 64
+  pub offset-count : length offsets ≡ strands + 1
+  pub byte-count : length present ≡ strands
+
+pub sized : (strands : ℕ) (text offsets present : List ℕ) → namesSized strands text offsets present ≡ true → Sized strands text offsets present
+unfolding namesSized
+sized strands text offsets present e =
+    let a = both (leb 1 strands) _ e in
+    let b = both (leb strands 64) _ (a .1) in
+    let c = both (leb (length text) 16384) _ (b .1) in
+    let d = both (eqb (length offsets) (strands + 1)) _ (c .1) in
+    record {
+      some = leb-true 1 strands (a .0);
+      few = leb-true strands 64 (b .0);
+      offset-count = eqb-true (length offsets) (strands + 1) (d .0);
+      byte-count = eqb-true (length present) strands (d .1);
+    }
+
+pub readable : {strands : ℕ} (n : Names) → Sized strands (n .text) (n .offsets) (n .present)
+    → namesRead (n .text) (n .offsets) (n .present) (n .numerals) ≡ true → Readable n
+unfolding namesRead nullFirst
+readable {strands} n s e =
+    let a = both (areFlags (n .present)) _ e in
+    let b = both (offsetsFit (length (n .text)) (n .offsets)) _ (a .1) in
+    let c = both (nullFirst (n .text) (n .offsets) (n .present)) _ (b .1) in
+    let d = both (eqb (getD (n .present) 0 0) 1) _ (c .0) in
+    record {
+      offsets-fit = b .0;
+      counts = s .offset-count ∙ ap (λ k. k + 1) (sym (s .byte-count));
+      few = omega arith;
+      null-present = eqb-true (getD (n .present) 0 0) 1 (d .0);
+      numerals-right = same-equal (n .numerals) numeralsText (c .1);
+    }
+
+-- a tile without a name is not tile 0, and its place in the list of strands has two digits in the numerals
+pub not-null : (n : Names) → Readable n → (tile : ℕ) → (getD (n .present) tile 0 ≡ 1 → ⊥) → 1 ≤ tile
+not-null n r zero absent = absurd (absent (r .null-present))
+not-null n r (suc tile) absent = omega arith
+
+pub numeral-within : (n : Names) → Readable n → (tile : ℕ) → tile < length (n .present) → (tile - 1 < 63) × (length (n .numerals) ≡ 126)
+unfolding numeralsFrom
+numeral-within n r tile h = (omega (arith, r .few), ap length (r .numerals-right))

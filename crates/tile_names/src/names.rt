@@ -1,0 +1,117 @@
+// The names of the strands: the tests on them, and the part of a lent text that is shown for a tile.
+ghost use mathlib.Core.Path.{_≡_};
+ghost use mathlib.Core.Bool.{true};
+ghost use Prim.Native.Nat.{_+_, _<_};
+ghost use lib.ListN.{length, getD};
+ghost use denote.Ref.{ptr};
+ghost use Rattle.entries.specs.Entries.{part, entryOf, offsetsFit, sameBytes};
+ghost use Rattle.tile_names.specs.Numerals.{numeralsText, numeralStart, numeralEnd};
+ghost use Rattle.tile_names.specs.Names.{names, namesSized, nullFirst, namesRead, after, beginsAt, shownPart, shownName, Readable};
+use entries::are_flags;
+use entries::offsets_fit;
+use entries::same_bytes;
+
+// Two digits for each i from 0 to 62.
+const NUMERALS: [u8; 126] =
+    *b"000102030405060708091011121314151617181920212223242526272829303132333435363738394041424344454647484950515253545556575859606162";
+
+// Whether the sizes and counts of names are right.
+pub fn names_sized(strands: usize, text: &[u8], offsets: &[usize], present: &[u8]) -> bool
+    ensures { λ r. ⌜ r ≡ namesSized strands (now (text .entry)) (now (offsets .entry)) (now (present .entry)) ⌝ }
+{
+    if strands < 1 {
+        return false;
+    }
+    if 64 < strands {
+        return false;
+    }
+    if 16384 < text.len() {
+        return false;
+    }
+    if offsets.len() != strands + 1 {
+        return false;
+    }
+    present.len() == strands
+}
+
+// Entry i of a text.
+pub fn entry<'a>(text: &'a [u8], offsets: &[usize], i: usize) -> &'a [u8]
+    requires { ⌜ i + 1 < length (now offsets) ⌝ }
+    requires { ⌜ offsetsFit (length (now text)) (now offsets) ≡ true ⌝ }
+    ensures bytes { λ r. ⌜ now r ≡ entryOf (now (text .entry)) (now (offsets .entry)) i ⌝ }
+    ensures place { λ r. ⌜ ptr r ≡ after (ptr (text .entry)) (getD (now (offsets .entry)) i 0) ⌝ }
+{
+    let from = offsets[i];
+    let to = offsets[i + 1];
+    &text[from..to]
+}
+
+// Whether entry 0 is present and is `null`.
+fn null_first(text: &[u8], offsets: &[usize], present: &[u8]) -> bool
+    requires { ⌜ (1 < length (now offsets)) × (0 < length (now present)) ⌝ }
+    requires { ⌜ offsetsFit (length (now text)) (now offsets) ≡ true ⌝ }
+    ensures { λ r. ⌜ r ≡ nullFirst (now (text .entry)) (now (offsets .entry)) (now (present .entry)) ⌝ }
+{
+    if present[0] != 1 {
+        return false;
+    }
+    same_bytes(entry(text, offsets, 0), b"null")
+}
+
+// Whether a text is the numerals text.
+fn are_numerals(numerals: &[u8]) -> bool
+    ensures { λ r. ⌜ r ≡ sameBytes (now (numerals .entry)) numeralsText ⌝ }
+{
+    same_bytes(numerals, &NUMERALS)
+}
+
+// Whether names and numerals can be read.
+pub fn names_read(text: &[u8], offsets: &[usize], present: &[u8], numerals: &[u8]) -> bool
+    requires { ⌜ (1 < length (now offsets)) × (0 < length (now present)) ⌝ }
+    ensures { λ r. ⌜ r ≡ namesRead (now (text .entry)) (now (offsets .entry)) (now (present .entry)) (now (numerals .entry)) ⌝ }
+{
+    if !are_flags(present) {
+        return false;
+    }
+    if !offsets_fit(offsets, text.len()) {
+        return false;
+    }
+    if !null_first(text, offsets, present) {
+        return false;
+    }
+    are_numerals(numerals)
+}
+
+// The digits that are shown for i.
+fn numeral(numerals: &[u8], i: usize) -> &[u8]
+    requires { ⌜ (i < 63) × (length (now numerals) ≡ 126) ⌝ }
+    ensures bytes { λ r. ⌜ now r ≡ part (now (numerals .entry)) (numeralStart i) (numeralEnd i) ⌝ }
+    ensures place { λ r. ⌜ ptr r ≡ after (ptr (numerals .entry)) (numeralStart i) ⌝ }
+{
+    let end = 2 * i + 2;
+    if i < 10 {
+        let start = 2 * i + 1;
+        return &numerals[start..end];
+    }
+    let start = 2 * i;
+    &numerals[start..end]
+}
+
+// The part that is shown for a tile.
+pub fn shown<'a>(
+    text: &'a [u8],
+    offsets: &[usize],
+    present: &[u8],
+    numerals: &'a [u8],
+    tile: usize,
+) -> &'a [u8]
+    requires { ⌜ Readable (names (now text) (now offsets) (now present) (now numerals)) ⌝ }
+    requires { ⌜ tile < length (now present) ⌝ }
+    ensures bytes { λ r. ⌜ now r ≡ shownName (names (now (text .entry)) (now (offsets .entry)) (now (present .entry)) (now (numerals .entry))) tile ⌝ }
+    ensures place { λ r. ⌜ ptr r ≡ beginsAt (ptr (text .entry)) (ptr (numerals .entry)) (shownPart (names (now (text .entry)) (now (offsets .entry)) (now (present .entry)) (now (numerals .entry))) tile) ⌝ }
+{
+    if present[tile] == 1 {
+        return entry(text, offsets, tile);
+    }
+    numeral(numerals, tile - 1)
+}
