@@ -40,6 +40,10 @@ sized strands text offsets present e =
       byte-count = eqb-true (length present) strands (d .1);
     }
 
+-- so that entry 0 can be looked at
+pub first-there : (strands : ℕ) (text offsets present : List ℕ) → Sized strands text offsets present → (1 < length offsets) × (0 < length present)
+first-there strands text offsets present s = (omega arith, omega arith)
+
 pub readable : {strands : ℕ} (n : Names) → Sized strands (n .text) (n .offsets) (n .present)
     → namesRead (n .text) (n .offsets) (n .present) (n .numerals) ≡ true → Readable n
 unfolding namesRead nullFirst

@@ -1,3 +1,2 @@
 pub mod Numerals
 pub mod Names
-pub mod Seeds

@@ -1,5 +1,5 @@
-// The name that is shown for a tile, and seeds that are given by name.
-mod names;
+// The name that is shown for a tile.
+pub mod names;
 mod tiles;
 
 pub use tiles::NumberAnswer;

@@ -115,3 +115,22 @@ pub fn shown<'a>(
     }
     numeral(numerals, tile - 1)
 }
+
+// Whether this is the name shown for a tile: `shown` for texts that are lent for different times.
+pub fn shows(
+    text: &[u8],
+    offsets: &[usize],
+    present: &[u8],
+    numerals: &[u8],
+    tile: usize,
+    name: &[u8],
+) -> bool
+    requires { ⌜ Readable (names (now text) (now offsets) (now present) (now numerals)) ⌝ }
+    requires { ⌜ tile < length (now present) ⌝ }
+    ensures { λ r. ⌜ r ≡ sameBytes (shownName (names (now (text .entry)) (now (offsets .entry)) (now (present .entry)) (now (numerals .entry))) tile) (now (name .entry)) ⌝ }
+{
+    if present[tile] == 1 {
+        return same_bytes(entry(text, offsets, tile), name);
+    }
+    same_bytes(numeral(numerals, tile - 1), name)
+}

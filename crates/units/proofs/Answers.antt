@@ -38,6 +38,9 @@ module _ {A : Type 0} {answer : Verdict → A} {refusedAs : Refusal → A} {refu
   pub given : {r : A} (v : Verdict) → Tabled v → r ≡ answer v → Prints (refusalIn r) v × (r ≡ answer v)
   given {r} v t e = (subst (λ (c : Check). Prints c v) (sym (ap refusalIn e ∙ k .reads-back v)) (prints v t), e)
 
+pub a-check : Answering Check check Refused (λ c. c)
+a-check = record { refuses-so = λ number values. refl; reads-back = λ v. refl }
+
 pub base-energy : (energy : BaseEnergy) → Answering BaseEnergyAnswer (λ v. baseEnergyAnswer v energy) BaseEnergy·Refused baseEnergyRefusal
 base-energy energy = record { refuses-so = λ number values. refl; reads-back = reads }
   where

@@ -1,8 +1,7 @@
 -- `tile_names::tiles::tile_name_refusal` meets its contract: the chain of tests is followed link by link. Assumes nothing.
-use native.Mathlib.Omega.{arith}
 use borrow.Author.Needs.{needs}
 use borrow.Author.Tests.{lt-ltb, le-ltb}
-use Rattle.tile_names.proofs.Passed.{fails, holds, sized}
+use Rattle.tile_names.proofs.Passed.{fails, holds, sized, first-there}
 use Rattle.tile_names.proofs.Tile.{answered, refuses-1, refuses-17, refuses-6, refuses-none}
 use Rattle.units.specs.Refusals.{passes, refuses}
 use mathlib.Core.List.{[]}
@@ -16,9 +15,7 @@ returns : tie.Need-returns
 returns c = answered (refuses 1 []) (refuses-1 _ _ _ _ _ _ (fails (c .before .names-sized .ensures) (c .if1 .taken)))
 
 names-read-requires : tie.Need-names-read-requires
-names-read-requires c κs =
-    let s = sized _ _ _ _ (holds (c .before .names-sized .ensures) (c .if1 .left)) in
-    (omega arith, omega arith)
+names-read-requires c κs = first-there _ _ _ _ (sized _ _ _ _ (holds (c .before .names-sized .ensures) (c .if1 .left)))
 
 returns-2 : tie.Need-returns-2
 returns-2 c =

@@ -1,0 +1,4 @@
+pub mod Triples
+pub mod FirstShown
+pub mod EachSeed
+pub mod Chain

@@ -1,0 +1,45 @@
+// The triples of seeds that passed every test.
+ghost use mathlib.Core.Path.{_≡_};
+ghost use mathlib.Core.List.{_∷_, _++_};
+ghost use Prim.Native.Nat.{ℕ, _+_, _*_, _<_, _≤_};
+ghost use lib.ListN.{length, take, drop};
+ghost use Rattle.tile_names.specs.Names.{names, Readable};
+ghost use Rattle.named_seeds.specs.Seeds.{seedList, seedCount, seedRow, seedCol, seedTriples, SeedsReadable};
+use crate::find::seed_strand;
+
+// Triple k of the table.
+fn put_seed(seeds: &mut [u32], k: usize, row: u32, col: u32, strand: u32)
+    requires { ⌜ 3 * k + 3 ≤ length (now seeds) ⌝ }
+    ensures { λ _. ⌜ now (seeds .exit) ≡ take (3 * k) (now (seeds .entry)) ++ row ∷ col ∷ strand ∷ drop (3 * k + 3) (now (seeds .entry)) ⌝ }
+{
+    seeds[3 * k] = row;
+    seeds[3 * k + 1] = col;
+    seeds[3 * k + 2] = strand;
+}
+
+// The triples of all seeds. Where the tests passed each row and column is below 32.
+pub fn fill_seeds(
+    text: &[u8],
+    offsets: &[usize],
+    present: &[u8],
+    numerals: &[u8],
+    places: &[usize],
+    seed_text: &[u8],
+    seed_offsets: &[usize],
+    seeds: &mut [u32],
+)
+    requires { ⌜ Readable (names (now text) (now offsets) (now present) (now numerals)) ⌝ }
+    requires { ⌜ SeedsReadable (seedList (now places) (now «seed_text») (now «seed_offsets»)) ⌝ }
+    requires { ⌜ ((k : ℕ) → k < seedCount (seedList (now places) (now «seed_text») (now «seed_offsets»)) → (seedRow (seedList (now places) (now «seed_text») (now «seed_offsets»)) k < 32) × (seedCol (seedList (now places) (now «seed_text») (now «seed_offsets»)) k < 32)) ⌝ }
+    requires { ⌜ length (now seeds) ≡ 3 * seedCount (seedList (now places) (now «seed_text») (now «seed_offsets»)) ⌝ }
+    ensures { λ _. ⌜ now (seeds .exit) ≡ seedTriples (names (now (text .entry)) (now (offsets .entry)) (now (present .entry)) (now (numerals .entry))) (seedList (now (places .entry)) (now («seed_text» .entry)) (now («seed_offsets» .entry))) (seedCount (seedList (now (places .entry)) (now («seed_text» .entry)) (now («seed_offsets» .entry)))) ⌝ }
+{
+    let mut k = 0;
+    while k < places.len() / 2 {
+        let row = places[2 * k] as u32;
+        let col = places[2 * k + 1] as u32;
+        let strand = seed_strand(text, offsets, present, numerals, seed_text, seed_offsets, k);
+        put_seed(seeds, k, row, col, strand as u32);
+        k += 1;
+    }
+}
