@@ -24,6 +24,7 @@ mod cases;
 mod names;
 mod reach;
 mod sequences;
+mod systems;
 
 use cases::{Asked, Case, Stop};
 use std::io::{Read, Write};
@@ -43,6 +44,8 @@ const CALLS: &[(&str, Call)] = &[
     ("energy_keys", names::energy_keys),
     ("tile_name", names::tile_name),
     ("seeds_by_name", names::seeds_by_name),
+    ("allowed_tiles", systems::allowed_tiles),
+    ("bonds", systems::bonds),
 ];
 
 /// The answer line of a case. A panic counts as the Rust's only while the question runs.

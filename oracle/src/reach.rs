@@ -6,6 +6,7 @@ use crate::cases::bits;
 use crate::models::sdc2d::{SDC2DParams, SDC2DSquare, SDC2DStrand};
 use crate::models::sdc2d_thermo::ask;
 use crate::models::sdc_common::{GsOrSeq, RefOrPair};
+use crate::systems;
 use crate::units::{self, Celsius, Kelvin, Temperature};
 use ndarray::prelude::Array2;
 use std::collections::HashMap;
@@ -109,6 +110,9 @@ pub fn reach(out: &mut impl Write) -> Result<()> {
         let legal = ask::base_allowed_tiles_at(&s, 0, 0);
         let (_, energy) = ask::mfe_configuration(&s, None);
         writeln!(out, "numbered {dg} {ds} legal {legal:?} least {}", bits(energy))?;
+    }
+    for log in [0.0, -16.11809565095832, 3.5, f64::NEG_INFINITY, 0.1, -0.0] {
+        writeln!(out, "concentration {} {}", bits(log), systems::concentration(log).is_ok())?;
     }
     Ok(())
 }

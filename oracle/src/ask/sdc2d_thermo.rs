@@ -1,5 +1,5 @@
 //! Added to the copy of `sdc2d_thermo.rs` as its child `ask`, and so able to call what is private there. Each function
-//! hands its arguments on and adds nothing.
+//! hands its arguments on and adds nothing; `scan` goes through the two loops of a run.
 
 use super::{SDC2DSquare, Tile};
 
@@ -43,4 +43,11 @@ pub fn mfe_configuration(s: &SDC2DSquare, constraints: Option<&[Vec<Vec<Tile>>]>
 
 pub fn log_partition_function(s: &SDC2DSquare, constraints: Option<&[Vec<Vec<Tile>>]>) -> f64 {
     s.log_partition_function_inner(constraints)
+}
+
+/// The bays in the order in which a run goes through them.
+pub fn scan(rows: usize, cols: usize) -> Vec<(usize, usize)> {
+    let order = super::ScanOrder::new(rows, cols);
+    let bays = (0..order.major_len).flat_map(|major| (0..order.minor_len).map(move |minor| (major, minor)));
+    bays.map(|(major, minor)| order.site(major, minor)).collect()
 }
