@@ -1,0 +1,64 @@
+// Answer lines: a refusal with what became of the lent tables, else the value.
+use crate::tables::all_numbers;
+use crate::tables::put_coded;
+use crate::tables::put_numbers;
+use crate::tables::put_small_numbers;
+use answer_lines::put_value;
+use answer_lines::refused;
+use case_text::put_text;
+use units::Check;
+use units::CountAnswer;
+use units::Refusal;
+
+// A refusal, and whether the lent tables are as they were.
+pub(crate) fn refused_with_tables(out: &mut [u8], r: Refusal, kept: bool) -> usize {
+    let at = refused(out, r);
+    if kept {
+        return put_text(out, at, b" kept");
+    }
+    put_text(out, at, b" changed")
+}
+
+pub(crate) fn base(out: &mut [u8], base: &[u8], is_from: bool) -> usize {
+    let at = put_coded(out, 0, b"base ", base);
+    if is_from {
+        return put_text(out, at, b" base");
+    }
+    put_text(out, at, b" inverse")
+}
+
+// The numbers of a list of bases; what stands behind them is 0.
+fn put_bases(out: &mut [u8], at: usize, bases: &[usize], count: usize) -> usize {
+    let used = if count < 128 { count * 2 } else { 256 };
+    let next = put_numbers(out, at, b" bases=", case_text::first_numbers(bases, used));
+    if all_numbers(bases, used, 0) {
+        return next;
+    }
+    put_text(out, next, b" rest")
+}
+
+pub(crate) fn registered(
+    out: &mut [u8],
+    answer: CountAnswer,
+    kept: bool,
+    glues: &[u32],
+    scaffold: &[u32],
+    bases: &[usize],
+) -> usize {
+    match answer {
+        CountAnswer::Refused(r) => refused_with_tables(out, r, kept),
+        CountAnswer::Count(count) => {
+            let word = put_value(out, 0, b"registered ", count);
+            let strands = put_small_numbers(out, word, b" glues=", glues);
+            let bays = put_small_numbers(out, strands, b" scaffold=", scaffold);
+            put_bases(out, bays, bases, count)
+        }
+    }
+}
+
+pub(crate) fn seeds(out: &mut [u8], answer: Check, kept: bool, seeds: &[u32]) -> usize {
+    match answer {
+        Check::Refused(r) => refused_with_tables(out, r, kept),
+        Check::Passed => put_small_numbers(out, 0, b"seeds ", seeds),
+    }
+}

@@ -1,0 +1,489 @@
+// The calls on a system's names: fields are read, the library is asked with tables of sevens, and the answer is put down.
+use crate::answers;
+use crate::fields::at_most;
+use crate::fields::bytes_field;
+use crate::fields::number_field;
+use crate::fields::number_or;
+use crate::fields::numbers_field;
+use crate::fields::numerals_field;
+use crate::fields::product;
+use crate::fields::text_field;
+use crate::tables::all_numbers;
+use crate::tables::all_small_numbers;
+use crate::tables::put_coded;
+use answer_lines::put_value;
+use answer_lines::unreadable;
+use case_text::Count;
+use case_text::Number;
+use case_text::first_bytes;
+use case_text::first_numbers;
+use case_text::first_small_numbers;
+use tile_names::NumberAnswer;
+
+pub(crate) fn self_and_inverse(line: &[u8], out: &mut [u8]) -> usize {
+    let mut name = [0u8; 1024];
+    let Count::Of(n) = text_field(line, b"name", &mut name) else {
+        return unreadable(out);
+    };
+    let given = first_bytes(&name, n);
+    answers::base(
+        out,
+        sdc_common::self_and_inverse(given),
+        sdc_common::is_from(given),
+    )
+}
+
+// Asks with parts of the tables that are as long as the case says.
+fn register_into(
+    sizes: Sizes,
+    text: &[u8],
+    offsets: &[usize],
+    present: &[u8],
+    lengths: Lengths,
+    glues: &mut [u32],
+    scaffold: &mut [u32],
+    bases: &mut [usize],
+    out: &mut [u8],
+) -> usize {
+    let g = lengths.glues;
+    let s = lengths.scaffold;
+    let b = lengths.bases;
+    if glues.len() < g {
+        return unreadable(out);
+    }
+    if scaffold.len() < s {
+        return unreadable(out);
+    }
+    if bases.len() < b {
+        return unreadable(out);
+    }
+    let answer = registering::register(
+        sizes.rows,
+        sizes.cols,
+        sizes.strands,
+        text,
+        offsets,
+        present,
+        &mut glues[..g],
+        &mut scaffold[..s],
+        &mut bases[..b],
+    );
+    let kept = all_small_numbers(glues, 7)
+        && all_small_numbers(scaffold, 7)
+        && all_numbers(bases, 0, 7);
+    answers::registered(
+        out,
+        answer,
+        kept,
+        first_small_numbers(glues, g),
+        first_small_numbers(scaffold, s),
+        first_numbers(bases, b),
+    )
+}
+
+// The lengths of the tables that are lent to `register`.
+struct Lengths {
+    glues: usize,
+    scaffold: usize,
+    bases: usize,
+}
+
+// The bays of a grid; a side past the limit of 32 is taken for 33, which is refused whatever is lent.
+fn bays(rows: usize, cols: usize) -> usize {
+    product(at_most(rows, 33), at_most(cols, 33))
+}
+
+// The texts and lists of a case are read; the numbers are still in its line.
+fn register_read(
+    line: &[u8],
+    text: &[u8; 16400],
+    text_read: Count,
+    offsets: &[usize; 1400],
+    offsets_read: Count,
+    present: &[u8; 1400],
+    present_read: Count,
+    out: &mut [u8],
+) -> usize {
+    let Count::Of(t) = text_read else {
+        return unreadable(out);
+    };
+    let Count::Of(o) = offsets_read else {
+        return unreadable(out);
+    };
+    let Count::Of(p) = present_read else {
+        return unreadable(out);
+    };
+    register_numbers(
+        line,
+        first_bytes(text, t),
+        first_numbers(offsets, o),
+        first_bytes(present, p),
+        out,
+    )
+}
+
+// The sizes of a grid and of a set of strands, as a case gives them.
+struct Sizes {
+    rows: usize,
+    cols: usize,
+    strands: usize,
+}
+
+enum SizesRead {
+    Of(Sizes),
+    Unreadable,
+}
+
+fn read_sizes(line: &[u8]) -> SizesRead {
+    let Number::Of(rows) = number_field(line, b"rows") else {
+        return SizesRead::Unreadable;
+    };
+    let Number::Of(cols) = number_field(line, b"cols") else {
+        return SizesRead::Unreadable;
+    };
+    let Number::Of(strands) = number_field(line, b"strands") else {
+        return SizesRead::Unreadable;
+    };
+    SizesRead::Of(Sizes {
+        rows: rows as usize,
+        cols: cols as usize,
+        strands: strands as usize,
+    })
+}
+
+enum LengthsRead {
+    Of(Lengths),
+    Unreadable,
+}
+
+fn read_lengths(line: &[u8], sizes: Sizes) -> LengthsRead {
+    let glues = product(at_most(sizes.strands, 66), 5);
+    let Number::Of(g) = number_or(line, b"glues_length", glues) else {
+        return LengthsRead::Unreadable;
+    };
+    let Number::Of(s) = number_or(line, b"scaffold_length", bays(sizes.rows, sizes.cols)) else {
+        return LengthsRead::Unreadable;
+    };
+    let Number::Of(b) = number_or(line, b"bases_length", 254) else {
+        return LengthsRead::Unreadable;
+    };
+    LengthsRead::Of(Lengths {
+        glues: g as usize,
+        scaffold: s as usize,
+        bases: b as usize,
+    })
+}
+
+// The numbers of a case are read.
+fn register_numbers(
+    line: &[u8],
+    text: &[u8],
+    offsets: &[usize],
+    present: &[u8],
+    out: &mut [u8],
+) -> usize {
+    let SizesRead::Of(sizes) = read_sizes(line) else {
+        return unreadable(out);
+    };
+    let LengthsRead::Of(lengths) = read_lengths(line, sizes) else {
+        return unreadable(out);
+    };
+    register_lent(sizes, text, offsets, present, lengths, out)
+}
+
+// Tables of sevens are lent.
+fn register_lent(
+    sizes: Sizes,
+    text: &[u8],
+    offsets: &[usize],
+    present: &[u8],
+    lengths: Lengths,
+    out: &mut [u8],
+) -> usize {
+    let mut glues = [7u32; 330];
+    let mut scaffold = [7u32; 1089];
+    let mut bases = [7usize; 256];
+    register_into(
+        sizes,
+        text,
+        offsets,
+        present,
+        lengths,
+        &mut glues,
+        &mut scaffold,
+        &mut bases,
+        out,
+    )
+}
+
+pub(crate) fn register(line: &[u8], out: &mut [u8]) -> usize {
+    let mut text = [0u8; 16400];
+    let text_read = text_field(line, b"text", &mut text);
+    let mut offsets = [0usize; 1400];
+    let offsets_read = numbers_field(line, b"offsets", &mut offsets);
+    let mut present = [0u8; 1400];
+    let present_read = bytes_field(line, b"present", &mut present);
+    register_read(
+        line,
+        &text,
+        text_read,
+        &offsets,
+        offsets_read,
+        &present,
+        present_read,
+        out,
+    )
+}
+
+// The name shown for a tile, or what is refused of it.
+fn tile_name_into<'a>(
+    strands: usize,
+    text: &'a [u8],
+    offsets: &[usize],
+    present: &[u8],
+    numerals: &'a [u8],
+    tile: u32,
+    out: &mut [u8],
+) -> usize {
+    let refusal = tile_names::tile_name_refusal(strands, text, offsets, present, numerals, tile);
+    match refusal {
+        NumberAnswer::Refused(number) => put_value(out, 0, b"refused ", number as usize),
+        NumberAnswer::Shown => {
+            let name = tile_names::tile_name(strands, text, offsets, present, numerals, tile);
+            put_coded(out, 0, b"name ", name)
+        }
+    }
+}
+
+// A tile number; what is past 32 bits is taken for the largest of them, which is no strand either.
+fn tile_number(n: u64) -> u32 {
+    if n < 4294967295 { n as u32 } else { 4294967295 }
+}
+
+pub(crate) fn tile_name(line: &[u8], out: &mut [u8]) -> usize {
+    let Number::Of(strands) = number_field(line, b"strands") else {
+        return unreadable(out);
+    };
+    let Number::Of(tile) = number_field(line, b"tile") else {
+        return unreadable(out);
+    };
+    let mut text = [0u8; 16400];
+    let Count::Of(t) = text_field(line, b"text", &mut text) else {
+        return unreadable(out);
+    };
+    let mut offsets = [0usize; 80];
+    let Count::Of(o) = numbers_field(line, b"offsets", &mut offsets) else {
+        return unreadable(out);
+    };
+    let mut present = [0u8; 80];
+    let Count::Of(p) = bytes_field(line, b"present", &mut present) else {
+        return unreadable(out);
+    };
+    let mut numerals = [0u8; 256];
+    let Count::Of(n) = numerals_field(line, &mut numerals) else {
+        return unreadable(out);
+    };
+    tile_name_into(
+        strands as usize,
+        first_bytes(&text, t),
+        first_numbers(&offsets, o),
+        first_bytes(&present, p),
+        first_bytes(&numerals, n),
+        tile_number(tile),
+        out,
+    )
+}
+
+// Asks with a part of the table that is as long as the case says.
+fn seeds_into(
+    sizes: Sizes,
+    text: &[u8],
+    offsets: &[usize],
+    present: &[u8],
+    numerals: &[u8],
+    places: &[usize],
+    seed_text: &[u8],
+    seed_offsets: &[usize],
+    length: usize,
+    seeds: &mut [u32],
+    out: &mut [u8],
+) -> usize {
+    if seeds.len() < length {
+        return unreadable(out);
+    }
+    let answer = named_seeds::seeds_by_name(
+        sizes.rows,
+        sizes.cols,
+        sizes.strands,
+        text,
+        offsets,
+        present,
+        numerals,
+        places,
+        seed_text,
+        seed_offsets,
+        &mut seeds[..length],
+    );
+    let kept = all_small_numbers(seeds, 7);
+    answers::seeds(out, answer, kept, first_small_numbers(seeds, length))
+}
+
+// The seeds of a case are read.
+fn seeds_read(
+    line: &[u8],
+    text: &[u8],
+    offsets: &[usize],
+    present: &[u8],
+    numerals: &[u8],
+    places: &[usize; 64],
+    places_read: Count,
+    seed_text: &[u8; 16400],
+    seed_text_read: Count,
+    seed_offsets: &[usize; 64],
+    seed_offsets_read: Count,
+    out: &mut [u8],
+) -> usize {
+    let Count::Of(k) = places_read else {
+        return unreadable(out);
+    };
+    let Count::Of(u) = seed_text_read else {
+        return unreadable(out);
+    };
+    let Count::Of(v) = seed_offsets_read else {
+        return unreadable(out);
+    };
+    seeds_numbers(
+        line,
+        text,
+        offsets,
+        present,
+        numerals,
+        first_numbers(places, k),
+        first_bytes(seed_text, u),
+        first_numbers(seed_offsets, v),
+        out,
+    )
+}
+
+// The numbers of a case are read, and a table of sevens is lent.
+fn seeds_numbers(
+    line: &[u8],
+    text: &[u8],
+    offsets: &[usize],
+    present: &[u8],
+    numerals: &[u8],
+    places: &[usize],
+    seed_text: &[u8],
+    seed_offsets: &[usize],
+    out: &mut [u8],
+) -> usize {
+    let SizesRead::Of(sizes) = read_sizes(line) else {
+        return unreadable(out);
+    };
+    let Number::Of(length) = number_or(line, b"seeds_length", product(places.len() / 2, 3)) else {
+        return unreadable(out);
+    };
+    let mut seeds = [7u32; 128];
+    seeds_into(
+        sizes,
+        text,
+        offsets,
+        present,
+        numerals,
+        places,
+        seed_text,
+        seed_offsets,
+        length as usize,
+        &mut seeds,
+        out,
+    )
+}
+
+// The names of the strands are read; the seeds are still in the line.
+fn seeds_named(
+    line: &[u8],
+    text: &[u8; 16400],
+    text_read: Count,
+    offsets: &[usize; 80],
+    offsets_read: Count,
+    present: &[u8; 80],
+    present_read: Count,
+    numerals: &[u8; 256],
+    numerals_read: Count,
+    out: &mut [u8],
+) -> usize {
+    let Count::Of(t) = text_read else {
+        return unreadable(out);
+    };
+    let Count::Of(o) = offsets_read else {
+        return unreadable(out);
+    };
+    let Count::Of(p) = present_read else {
+        return unreadable(out);
+    };
+    let Count::Of(n) = numerals_read else {
+        return unreadable(out);
+    };
+    seeds_given(
+        line,
+        first_bytes(text, t),
+        first_numbers(offsets, o),
+        first_bytes(present, p),
+        first_bytes(numerals, n),
+        out,
+    )
+}
+
+// The lists of the seeds are read.
+fn seeds_given(
+    line: &[u8],
+    text: &[u8],
+    offsets: &[usize],
+    present: &[u8],
+    numerals: &[u8],
+    out: &mut [u8],
+) -> usize {
+    let mut places = [0usize; 64];
+    let places_read = numbers_field(line, b"places", &mut places);
+    let mut seed_text = [0u8; 16400];
+    let seed_text_read = text_field(line, b"seed_text", &mut seed_text);
+    let mut seed_offsets = [0usize; 64];
+    let seed_offsets_read = numbers_field(line, b"seed_offsets", &mut seed_offsets);
+    seeds_read(
+        line,
+        text,
+        offsets,
+        present,
+        numerals,
+        &places,
+        places_read,
+        &seed_text,
+        seed_text_read,
+        &seed_offsets,
+        seed_offsets_read,
+        out,
+    )
+}
+
+pub(crate) fn seeds_by_name(line: &[u8], out: &mut [u8]) -> usize {
+    let mut text = [0u8; 16400];
+    let text_read = text_field(line, b"text", &mut text);
+    let mut offsets = [0usize; 80];
+    let offsets_read = numbers_field(line, b"offsets", &mut offsets);
+    let mut present = [0u8; 80];
+    let present_read = bytes_field(line, b"present", &mut present);
+    let mut numerals = [0u8; 256];
+    let numerals_read = numerals_field(line, &mut numerals);
+    seeds_named(
+        line,
+        &text,
+        text_read,
+        &offsets,
+        offsets_read,
+        &present,
+        present_read,
+        &numerals,
+        numerals_read,
+        out,
+    )
+}

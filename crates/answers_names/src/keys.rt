@@ -1,0 +1,349 @@
+// The call on energy keys: the matrices are the program's, filled with 7.0 as far as the case lends them.
+use crate::answers::refused_with_tables;
+use crate::fields::bytes_field;
+use crate::fields::floats_field;
+use crate::fields::number_field;
+use crate::fields::number_or;
+use crate::fields::numbers_field;
+use crate::fields::product;
+use crate::fields::text_field;
+use crate::tables::all_floats;
+use crate::tables::fill_floats;
+use answer_lines::put_floats;
+use answer_lines::put_value;
+use answer_lines::unreadable;
+use case_text::Count;
+use case_text::Number;
+use case_text::first_bytes;
+use case_text::first_floats;
+use case_text::first_numbers;
+use case_text::put_text;
+use units::Check;
+
+// One cell of row i and column j, unless both floats are 0.0.
+fn put_cell(out: &mut [u8], at: usize, i: usize, j: usize, dg: f64, ds: f64) -> usize {
+    if dg == 0.0 && ds == 0.0 {
+        return at;
+    }
+    let row = put_value(out, at, b" ", i);
+    let cell = put_value(out, row, b",", j);
+    put_floats(out, cell, b"=", dg, b",", ds)
+}
+
+// The row after column j of row i.
+fn next_row(i: usize, j: usize, side: usize) -> usize {
+    if next_column(j, side) != 0 {
+        return i;
+    }
+    if i < side { i + 1 } else { i }
+}
+
+// The column after column j.
+fn next_column(j: usize, side: usize) -> usize {
+    if j < side {
+        let next = j + 1;
+        if next < side {
+            return next;
+        }
+    }
+    0
+}
+
+// Each cell that holds something, row by row.
+fn put_matrices(out: &mut [u8], side: usize, delta_g: &[f64], entropy: &[f64]) -> usize {
+    let mut next = put_text(out, 0, b"matrices");
+    let mut i = 0;
+    let mut j = 0;
+    let mut k = 0;
+    while k < delta_g.len() {
+        if entropy.len() <= k {
+            return next;
+        }
+        next = put_cell(out, next, i, j, delta_g[k], entropy[k]);
+        i = next_row(i, j, side);
+        j = next_column(j, side);
+        k += 1;
+    }
+    next
+}
+
+// Asks with parts of the matrices that have so many cells.
+fn keys_into(
+    text: &[u8],
+    offsets: &[usize],
+    paired: &[u8],
+    kinds: &[u8],
+    numbers: &[f64],
+    sequences: &[u8],
+    sequence_offsets: &[usize],
+    bases: &[usize],
+    count: usize,
+    side: usize,
+    delta_g: &mut [f64],
+    entropy: &mut [f64],
+    out: &mut [u8],
+) -> usize {
+    fill_floats(delta_g, 7.0);
+    fill_floats(entropy, 7.0);
+    let answer = energy_keys::energy_keys(
+        text,
+        offsets,
+        paired,
+        kinds,
+        numbers,
+        sequences,
+        sequence_offsets,
+        bases,
+        count,
+        delta_g,
+        entropy,
+    );
+    let kept = all_floats(delta_g, 7.0) && all_floats(entropy, 7.0);
+    match answer {
+        Check::Refused(r) => refused_with_tables(out, r, kept),
+        Check::Passed => put_matrices(out, side, delta_g, entropy),
+    }
+}
+
+// Asks with the parts of the tables that the case lends.
+fn keys_lent(
+    text: &[u8],
+    offsets: &[usize],
+    paired: &[u8],
+    kinds: &[u8],
+    numbers: &[f64],
+    sequences: &[u8],
+    sequence_offsets: &[usize],
+    bases: &[usize],
+    count: usize,
+    side: usize,
+    delta_g: &mut [f64],
+    entropy: &mut [f64],
+    out: &mut [u8],
+) -> usize {
+    let cells = product(side, side);
+    if delta_g.len() < cells {
+        return unreadable(out);
+    }
+    if entropy.len() < cells {
+        return unreadable(out);
+    }
+    keys_into(
+        text,
+        offsets,
+        paired,
+        kinds,
+        numbers,
+        sequences,
+        sequence_offsets,
+        bases,
+        count,
+        side,
+        &mut delta_g[..cells],
+        &mut entropy[..cells],
+        out,
+    )
+}
+
+// The right side for so many bases; for more than a table can have, that of 128.
+fn side_for(count: usize) -> usize {
+    if count < 128 { count * 2 + 1 } else { 257 }
+}
+
+// The larger of a length and what was read.
+fn at_least(length: usize, read: usize) -> usize {
+    if length < read { read } else { length }
+}
+
+// The list of bases and the numbers of a case are read.
+fn keys_numbers(
+    line: &[u8],
+    text: &[u8],
+    offsets: &[usize],
+    paired: &[u8],
+    kinds: &[u8],
+    numbers: &[f64],
+    sequences: &[u8],
+    sequence_offsets: &[usize],
+    bases: &[usize; 300],
+    bases_read: Count,
+    delta_g: &mut [f64],
+    entropy: &mut [f64],
+    out: &mut [u8],
+) -> usize {
+    let Count::Of(bases_count) = bases_read else {
+        return unreadable(out);
+    };
+    let otherwise = at_least(254, bases_count);
+    let Number::Of(length) = number_or(line, b"bases_length", otherwise) else {
+        return unreadable(out);
+    };
+    let Number::Of(count) = number_field(line, b"count") else {
+        return unreadable(out);
+    };
+    let Number::Of(side) = number_or(line, b"side", side_for(count as usize)) else {
+        return unreadable(out);
+    };
+    keys_lent(
+        text,
+        offsets,
+        paired,
+        kinds,
+        numbers,
+        sequences,
+        sequence_offsets,
+        first_numbers(bases, length as usize),
+        count as usize,
+        side as usize,
+        delta_g,
+        entropy,
+        out,
+    )
+}
+
+// The sequences of a case are read, and then its bases.
+fn keys_sequences(
+    line: &[u8],
+    text: &[u8],
+    offsets: &[usize],
+    paired: &[u8],
+    kinds: &[u8],
+    numbers: &[f64],
+    sequences: &[u8; 16400],
+    sequences_read: Count,
+    sequence_offsets: &[usize; 64],
+    sequence_offsets_read: Count,
+    delta_g: &mut [f64],
+    entropy: &mut [f64],
+    out: &mut [u8],
+) -> usize {
+    let Count::Of(sequences_count) = sequences_read else {
+        return unreadable(out);
+    };
+    let Count::Of(sequence_offsets_count) = sequence_offsets_read else {
+        return unreadable(out);
+    };
+    let mut bases = [0usize; 300];
+    let bases_read = numbers_field(line, b"bases", &mut bases);
+    keys_numbers(
+        line,
+        text,
+        offsets,
+        paired,
+        kinds,
+        numbers,
+        first_bytes(sequences, sequences_count),
+        first_numbers(sequence_offsets, sequence_offsets_count),
+        &bases,
+        bases_read,
+        delta_g,
+        entropy,
+        out,
+    )
+}
+
+// The kinds of the keys and their floats are read, and then the sequences.
+fn keys_kinds(
+    line: &[u8],
+    text: &[u8],
+    offsets: &[usize],
+    paired: &[u8; 64],
+    paired_read: Count,
+    kinds: &[u8; 64],
+    kinds_read: Count,
+    numbers: &[f64; 128],
+    numbers_read: Count,
+    delta_g: &mut [f64],
+    entropy: &mut [f64],
+    out: &mut [u8],
+) -> usize {
+    let Count::Of(paired_count) = paired_read else {
+        return unreadable(out);
+    };
+    let Count::Of(kinds_count) = kinds_read else {
+        return unreadable(out);
+    };
+    let Count::Of(numbers_count) = numbers_read else {
+        return unreadable(out);
+    };
+    let mut sequences = [0u8; 16400];
+    let sequences_read = text_field(line, b"sequences", &mut sequences);
+    let mut sequence_offsets = [0usize; 64];
+    let sequence_offsets_read = numbers_field(line, b"sequence_offsets", &mut sequence_offsets);
+    keys_sequences(
+        line,
+        text,
+        offsets,
+        first_bytes(paired, paired_count),
+        first_bytes(kinds, kinds_count),
+        first_floats(numbers, numbers_count),
+        &sequences,
+        sequences_read,
+        &sequence_offsets,
+        sequence_offsets_read,
+        delta_g,
+        entropy,
+        out,
+    )
+}
+
+// The names of the keys are read, and then what kind each is.
+fn keys_named(
+    line: &[u8],
+    text: &[u8; 16400],
+    text_read: Count,
+    offsets: &[usize; 128],
+    offsets_read: Count,
+    delta_g: &mut [f64],
+    entropy: &mut [f64],
+    out: &mut [u8],
+) -> usize {
+    let Count::Of(text_count) = text_read else {
+        return unreadable(out);
+    };
+    let Count::Of(offsets_count) = offsets_read else {
+        return unreadable(out);
+    };
+    let mut paired = [0u8; 64];
+    let paired_read = bytes_field(line, b"paired", &mut paired);
+    let mut kinds = [0u8; 64];
+    let kinds_read = bytes_field(line, b"kinds", &mut kinds);
+    let mut numbers = [0.0; 128];
+    let numbers_read = floats_field(line, b"numbers", &mut numbers);
+    keys_kinds(
+        line,
+        first_bytes(text, text_count),
+        first_numbers(offsets, offsets_count),
+        &paired,
+        paired_read,
+        &kinds,
+        kinds_read,
+        &numbers,
+        numbers_read,
+        delta_g,
+        entropy,
+        out,
+    )
+}
+
+pub(crate) fn energy_keys(
+    line: &[u8],
+    delta_g: &mut [f64],
+    entropy: &mut [f64],
+    out: &mut [u8],
+) -> usize {
+    let mut text = [0u8; 16400];
+    let text_read = text_field(line, b"text", &mut text);
+    let mut offsets = [0usize; 128];
+    let offsets_read = numbers_field(line, b"offsets", &mut offsets);
+    keys_named(
+        line,
+        &text,
+        text_read,
+        &offsets,
+        offsets_read,
+        delta_g,
+        entropy,
+        out,
+    )
+}
