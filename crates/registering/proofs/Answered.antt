@@ -14,7 +14,8 @@ use Rattle.units.specs.Refusals.{Verdict, passes, _▷_, check, Prints}
 use Rattle.units.specs.Answers.{countRefusal}
 use Rattle.units.proofs.Answers.{a-count, refused, given}
 use Rattle.units.proofs.Verdicts.{Tabled, tabled-if, tabled-then, passed, refused-first, refused-keeps}
-use Rattle.registering.specs.Register.{Request, firstBay, bayCount, firstsOf, isSized, isReadable, sizesVerdict, namesVerdict, countVerdict, firstStarred, starsVerdict, registeredVerdict, inputVerdict, registerVerdict, registerAnswer, gluesAfter, scaffoldAfter, basesAfter}
+use Rattle.glue_names.specs.Starred.{firstStarred, starsVerdict}
+use Rattle.registering.specs.Register.{Request, firstBay, bayCount, firstsOf, isSized, isReadable, sizesVerdict, namesVerdict, countVerdict, registeredVerdict, inputVerdict, registerVerdict, registerAnswer, gluesAfter, scaffoldAfter, basesAfter}
 use Rattle.registering.specs.Steps.{Registered}
 use Rattle.registering.proofs.Passed.{bays}
 

@@ -20,11 +20,11 @@ use Rattle.entries.proofs.Bounds.{entry-starts, offset-within, length-part}
 use Rattle.sdc_common.specs.Stars.{baseLength, baseOf}
 use Rattle.sdc_common.proofs.BeforeStars.{base-at-most}
 use Rattle.sdc_common.proofs.Found.{all-fit}
-use Rattle.registering.specs.Names.{Names, nameAt, isPresent}
-use Rattle.registering.specs.Bases.{basesOf, isNew, firstsTo}
-use Rattle.registering.specs.Tables.{basesTable}
+use Rattle.glue_names.specs.Names.{Names, nameAt, isPresent, Readable}
+use Rattle.glue_names.specs.Glues.{Searchable}
+use Rattle.registering.specs.Bases.{basesOf, isNew, firstsTo, basesTable}
 use Rattle.registering.specs.Register.{countVerdict}
-use Rattle.registering.specs.Steps.{Readable, Searchable, Holds, Collected}
+use Rattle.registering.specs.Steps.{Holds, Collected}
 use Rattle.registering.proofs.Firsts.{length-bases, bases-append, base-offset, base-size, brings, firsts-kept, firsts-more, firsts-below, firsts-grow}
 use Rattle.registering.proofs.Front.{find-front, fit-front}
 

@@ -13,7 +13,7 @@ use Rattle.entries.specs.Entries.{part, entryOf}
 use Rattle.sdc_common.specs.Stars.{baseLength, baseOf}
 use Rattle.sdc_common.specs.Bases.{baseName}
 use Rattle.sdc_common.proofs.BeforeStars.{base-at-most}
-use Rattle.registering.specs.Names.{Names, nameAt}
+use Rattle.glue_names.specs.Names.{Names, nameAt}
 use Rattle.registering.specs.Bases.{basesOf, isNew, firstsTo}
 
 -- numbers below k, and perhaps k behind them, are below k + 1

@@ -1,9 +1,6 @@
 pub mod Passed
 pub mod Front
-pub mod Stores
 pub mod Firsts
 pub mod Collecting
-pub mod Starring
-pub mod Filling
 pub mod Registering
 pub mod Answered

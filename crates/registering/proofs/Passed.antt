@@ -11,9 +11,9 @@ use borrow.Author.Tests.{leb-true, eqb-true, not-false}
 use Rattle.units.specs.Refusals.{passes}
 use Rattle.units.proofs.Verdicts.{no-fault, first-passes, rest-passes}
 use Rattle.entries.specs.Entries.{areFlags, offsetsFit}
-use Rattle.registering.specs.Names.{Names}
+use Rattle.glue_names.specs.Names.{Names, Readable}
 use Rattle.registering.specs.Register.{Request, inRange, sizesFit, namesFit, tablesFit, bayCount, entryCount, isSized, isReadable, sizesVerdict, namesVerdict, inputVerdict}
-use Rattle.registering.specs.Steps.{Readable, Fitting}
+use Rattle.registering.specs.Steps.{Fitting}
 
 -- sizes in their ranges
 pub record InSizes (rows cols strands : ℕ) : Type 0 where

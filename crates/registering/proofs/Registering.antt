@@ -13,11 +13,12 @@ use Rattle.units.specs.Refusals.{Verdict, passes, refuses, _▷_, ifPasses, che
 use Rattle.units.specs.Answers.{countAnswer}
 use Rattle.units.proofs.Answers.{a-count, refused}
 use Rattle.units.proofs.Verdicts.{passed, refused-keeps}
-use Rattle.registering.specs.Names.{Names}
-use Rattle.registering.specs.Bases.{basesOf}
-use Rattle.registering.specs.Tables.{strandTable, scaffoldTable, basesTable}
-use Rattle.registering.specs.Register.{firstBay, countVerdict, starsVerdict, firstsOf, registeredVerdict, registeredStrands, registeredScaffold, registeredBases}
-use Rattle.registering.specs.Steps.{Readable, Fitting, Searchable, Holds, Collected, Registered}
+use Rattle.glue_names.specs.Names.{Names, Readable}
+use Rattle.registering.specs.Bases.{basesOf, basesTable}
+use Rattle.glue_names.specs.Glues.{strandTable, scaffoldTable, Searchable}
+use Rattle.glue_names.specs.Starred.{starsVerdict}
+use Rattle.registering.specs.Register.{firstBay, countVerdict, firstsOf, registeredVerdict, registeredStrands, registeredScaffold, registeredBases}
+use Rattle.registering.specs.Steps.{Fitting, Holds, Collected, Registered}
 use Rattle.registering.proofs.Firsts.{length-bases}
 use Rattle.registering.proofs.Collecting.{goes-on, few-pass, searchable}
 

@@ -1,21 +1,17 @@
 -- Which entries bring a new base, and the bases that they bring. Assumes nothing.
-use Prim.Native.Nat.{ℕ, zero, suc, _+_}
+use Prim.Native.Nat.{ℕ, zero, suc, _*_, _-_}
 use mathlib.Core.Bool.{Bool, cond, _&&_}
 use mathlib.Core.List.{List, [], _∷_, _++_}
 use lib.Dec.{eqb}
-use lib.ListN.{length, getD}
-use Rattle.sdc_common.specs.Stars.{baseLength, baseOf}
-use Rattle.sdc_common.specs.Bases.{findBase}
-use Rattle.registering.specs.Names.{Names, nameAt, isPresent}
+use lib.ListN.{length, getD, replicate}
+use Rattle.sdc_common.specs.Stars.{baseLength}
+use Rattle.glue_names.specs.Names.{Names, nameAt, isPresent}
+use Rattle.glue_names.specs.Glues.{placeOf}
 
 -- the bases of these entries, as offset and length of each
 unfoldable pub basesOf : Names → List ℕ → List ℕ
 basesOf n [] = []
 basesOf n (i ∷ entries) = getD (n .offsets) i 0 ∷ baseLength (nameAt n i) ∷ basesOf n entries
-
--- the place of entry i's base in a list of bases, first match counting, or their count where it is not there
-abbrev pub placeOf : Names → (bases : List ℕ) → (count : ℕ) → ℕ → ℕ
-placeOf n bases count i = findBase (n .text) bases count (baseOf (nameAt n i))
 
 -- entry i has a name whose base is not in the list
 abbrev pub isNew : Names → (bases : List ℕ) → (count : ℕ) → ℕ → Bool
@@ -25,3 +21,7 @@ isNew n bases count i = isPresent n i && eqb (placeOf n bases count i) count
 unfoldable pub firstsTo : Names → ℕ → List ℕ
 firstsTo n zero = []
 firstsTo n (suc i) = firstsTo n i ++ cond (isNew n (basesOf n (firstsTo n i)) (length (firstsTo n i)) i) (i ∷ []) []
+
+-- the bases of these entries in 254 numbers, the rest 0
+abbrev pub basesTable : Names → List ℕ → List ℕ
+basesTable n entries = basesOf n entries ++ replicate (254 - length entries * 2) 0

@@ -1,6 +1,6 @@
 -- Registering: what is refused, what is answered, and what the lent tables hold afterwards. Assumes nothing.
-use Prim.Native.Nat.{ℕ, zero, suc, _+_, _*_, _-_}
-use mathlib.Core.Bool.{Bool, cond, not, _&&_}
+use Prim.Native.Nat.{ℕ, _+_, _*_, _-_}
+use mathlib.Core.Bool.{Bool, not, _&&_}
 use mathlib.Core.List.{List, [], _∷_}
 use lib.Dec.{leb, ltb, eqb}
 use lib.ListN.{length, getD}
@@ -8,10 +8,10 @@ use Rattle.units.specs.declared.CountAnswer.{CountAnswer}
 use Rattle.units.specs.Refusals.{Verdict, refuseIf, _▷_, ifPasses}
 use Rattle.units.specs.Answers.{countAnswer}
 use Rattle.entries.specs.Entries.{offsetsFit, areFlags}
-use Rattle.sdc_common.specs.Stars.{starCount}
-use Rattle.registering.specs.Names.{Names, nameAt, isPresent}
-use Rattle.registering.specs.Bases.{firstsTo}
-use Rattle.registering.specs.Tables.{strandTable, scaffoldTable, basesTable}
+use Rattle.glue_names.specs.Names.{Names}
+use Rattle.glue_names.specs.Glues.{strandTable, scaffoldTable}
+use Rattle.glue_names.specs.Starred.{starsVerdict}
+use Rattle.registering.specs.Bases.{firstsTo, basesTable}
 
 -- What a call is given: the sizes, the names, and the tables as they are lent.
 pub record Request : Type 0 where
@@ -75,19 +75,6 @@ namesVerdict n = refuseIf (not (isReadable n)) 17 []
 -- 15, with the entry: base j has the glues 2j + 1 and 2j + 2, so that the 128th base would raise the count of glues above 256
 abbrev pub countVerdict : (firsts : List ℕ) → Verdict
 countVerdict firsts = refuseIf (ltb 256 (length firsts * 2 + 1)) 15 (getD firsts 127 0 ∷ [])
-
--- a present name with two or more stars
-abbrev pub isStarred : Names → ℕ → Bool
-isStarred n i = isPresent n i && leb 2 (starCount (nameAt n i))
-
--- the first of the k bays from `bay` on whose name is starred, or the one after them; bay 0 is the entry `from`
-unfoldable pub firstStarred : Names → (from bay k : ℕ) → ℕ
-firstStarred n from bay zero = bay
-firstStarred n from bay (suc k) = cond (isStarred n (from + bay)) bay (firstStarred n from (suc bay) k)
-
--- 16, with the bay: a scaffold name ends in two or more stars
-abbrev pub starsVerdict : Names → (from bays : ℕ) → Verdict
-starsVerdict n from bays = refuseIf (ltb (firstStarred n from 0 bays) bays) 16 (firstStarred n from 0 bays ∷ [])
 
 -- the entries that bring a new base, of all strands and bays
 abbrev pub firstsOf : Names → (strands bays : ℕ) → List ℕ

@@ -1,23 +1,14 @@
 -- What the steps of a registering ask of each other and leave to each other. Assumes nothing.
 use Prim.Native.Nat.{ℕ, _+_, _*_, _≤_}
 use mathlib.Core.Path.{_≡_}
-use mathlib.Core.Bool.{true}
 use mathlib.Core.List.{List}
 use lib.ListN.{length}
 use Rattle.units.specs.declared.CountAnswer.{CountAnswer}
 use Rattle.units.specs.Refusals.{passes, ifPasses}
 use Rattle.units.specs.Answers.{countAnswer}
-use Rattle.entries.specs.Entries.{offsetsFit}
-use Rattle.sdc_common.specs.Bases.{basesFit}
-use Rattle.registering.specs.Names.{Names}
-use Rattle.registering.specs.Bases.{firstsTo}
-use Rattle.registering.specs.Tables.{basesTable}
+use Rattle.glue_names.specs.Names.{Names}
+use Rattle.registering.specs.Bases.{firstsTo, basesTable}
 use Rattle.registering.specs.Register.{firstBay, countVerdict, firstsOf, registeredVerdict, registeredStrands, registeredScaffold, registeredBases}
-
--- names whose entries lie within their text
-pub record Readable (n : Names) : Type 0 where
-  pub fits : offsetsFit (length (n .text)) (n .offsets) ≡ true
-  pub counted : length (n .offsets) ≡ length (n .present) + 1
 
 -- lengths that fit each other
 pub record Fitting (n : Names) (strands : ℕ) (glues scaffold bases : List ℕ) : Type 0 where
@@ -25,12 +16,6 @@ pub record Fitting (n : Names) (strands : ℕ) (glues scaffold bases : List ℕ)
   pub entries : length (n .present) ≡ firstBay strands + length scaffold
   pub five : length glues ≡ strands * 5
   pub room : length bases ≡ 254
-
--- a list of at most 127 bases that lie within the text
-pub record Searchable (n : Names) (bases : List ℕ) (count : ℕ) : Type 0 where
-  pub few : count ≤ 127
-  pub held : count + count ≤ length bases
-  pub within : basesFit (length (n .text)) bases count ≡ true
 
 -- the bases that the first k entries bring, and their count
 pub record Holds (n : Names) (k : ℕ) (bases : List ℕ) (count : ℕ) : Type 0 where

@@ -2,7 +2,7 @@
 ghost use mathlib.Core.Path.{_≡_};
 ghost use Prim.Native.Nat.{_≤_};
 ghost use Rattle.units.specs.Refusals.{check};
-ghost use Rattle.registering.specs.Names.{names};
+ghost use Rattle.glue_names.specs.Names.{names};
 ghost use Rattle.registering.specs.Register.{inRange, sizesFit, namesFit, tablesFit, isSized, isReadable, request, inputVerdict};
 use entries::are_flags;
 use entries::offsets_fit;

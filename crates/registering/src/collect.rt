@@ -3,13 +3,32 @@ ghost use mathlib.Core.Path.{_≡_};
 ghost use Prim.Native.Nat.{_+_, _≤_, _<_};
 ghost use mathlib.Core.List.{[], _∷_, _++_};
 ghost use lib.ListN.{length, take, drop, replicate};
-ghost use Rattle.registering.specs.Names.{names};
-ghost use Rattle.registering.specs.Steps.{Readable, Holds, Collected};
-use crate::lookup::is_new;
+ghost use Rattle.glue_names.specs.Names.{names, Readable};
+ghost use Rattle.glue_names.specs.Glues.{Searchable};
+ghost use Rattle.registering.specs.Bases.{isNew};
+ghost use Rattle.registering.specs.Steps.{Holds, Collected};
 use entries::entry;
+use glue_names::place_of;
 use sdc_common::base_length;
 use units::CountAnswer;
 use units::Refusal;
+
+// Whether entry i has a name whose base is not in the list.
+fn is_new(
+    text: &[u8],
+    offsets: &[usize],
+    present: &[u8],
+    bases: &[usize],
+    count: usize,
+    i: usize,
+) -> bool
+    requires { ⌜ Readable (names (now text) (now offsets) (now present)) ⌝ }
+    requires { ⌜ Searchable (names (now text) (now offsets) (now present)) (now bases) count ⌝ }
+    requires { ⌜ i < length (now present) ⌝ }
+    ensures { λ r. ⌜ r ≡ isNew (names (now (text .entry)) (now (offsets .entry)) (now (present .entry))) (now (bases .entry)) count i ⌝ }
+{
+    present[i] == 1 && place_of(text, offsets, present, bases, count, i) == count
+}
 
 // Writes a base's offset and length behind `count` others.
 fn put_base(bases: &mut [usize], count: usize, offset: usize, size: usize)

@@ -1,16 +1,64 @@
 // The call that registers the glue names of a system.
 ghost use mathlib.Core.Path.{_≡_};
+ghost use lib.ListN.{length};
 ghost use Rattle.units.specs.Refusals.{Prints};
 ghost use Rattle.units.specs.Answers.{countRefusal};
-ghost use Rattle.registering.specs.Names.{names};
-ghost use Rattle.registering.specs.Register.{request, registerVerdict, registerAnswer, gluesAfter, scaffoldAfter, basesAfter};
-ghost use Rattle.registering.specs.Steps.{Readable, Fitting, Registered};
+ghost use Rattle.glue_names.specs.Names.{names, Readable};
+ghost use Rattle.glue_names.specs.Glues.{strandTable, scaffoldTable, Searchable};
+ghost use Rattle.registering.specs.Register.{request, firstBay, registerVerdict, registerAnswer, gluesAfter, scaffoldAfter, basesAfter};
+ghost use Rattle.registering.specs.Steps.{Fitting, Registered};
 use crate::checks::check_input;
 use crate::collect::collect;
-use crate::stars::check_stars;
-use crate::tables::write_tables;
+use glue_names::check_stars;
+use glue_names::fill_scaffold;
+use glue_names::fill_strands;
 use units::Check;
 use units::CountAnswer;
+
+// Copies the list of bases into the lent table.
+fn copy_bases(list: &[usize], table: &mut [usize])
+    requires { ⌜ length (now list) ≡ length (now table) ⌝ }
+    ensures { λ _. ⌜ now (table .exit) ≡ now (list .entry) ⌝ }
+{
+    let mut i = 0;
+    while i < table.len() {
+        table[i] = list[i];
+        i += 1;
+    }
+}
+
+// Writes the three lent tables.
+fn write_tables(
+    strands: usize,
+    text: &[u8],
+    offsets: &[usize],
+    present: &[u8],
+    list: &[usize],
+    count: usize,
+    glues: &mut [u32],
+    scaffold: &mut [u32],
+    bases: &mut [usize],
+)
+    requires { ⌜ Readable (names (now text) (now offsets) (now present)) ⌝ }
+    requires { ⌜ Searchable (names (now text) (now offsets) (now present)) (now list) count ⌝ }
+    requires { ⌜ Fitting (names (now text) (now offsets) (now present)) strands (now glues) (now scaffold) (now bases) ⌝ }
+    requires { ⌜ length (now list) ≡ 254 ⌝ }
+    ensures glues { λ _. ⌜ now (glues .exit) ≡ strandTable (names (now (text .entry)) (now (offsets .entry)) (now (present .entry))) (now (list .entry)) count strands ⌝ }
+    ensures scaffold { λ _. ⌜ now (scaffold .exit) ≡ scaffoldTable (names (now (text .entry)) (now (offsets .entry)) (now (present .entry))) (now (list .entry)) count (firstBay strands) (length (now (scaffold .entry))) ⌝ }
+    ensures bases { λ _. ⌜ now (bases .exit) ≡ now (list .entry) ⌝ }
+{
+    fill_strands(strands, text, offsets, present, list, count, glues);
+    fill_scaffold(
+        (strands - 1) * 5,
+        text,
+        offsets,
+        present,
+        list,
+        count,
+        scaffold,
+    );
+    copy_bases(list, bases);
+}
 
 // Registers names that can be read. The bases are collected aside, so that a refusal writes nothing.
 fn register_names(

@@ -6,8 +6,8 @@ use native.Mathlib.Omega.{arith}
 use lib.ListN.{length}
 use denote.Ref.{now}
 use borrow.Author.Needs.{needs}
-use Rattle.registering.specs.Names.{Names, names}
-use Rattle.registering.specs.Steps.{Readable, Holds}
+use Rattle.glue_names.specs.Names.{Names, names, Readable}
+use Rattle.registering.specs.Steps.{Holds}
 use Rattle.registering.proofs.Collecting.{begins, collects, goes-on, stops}
 use Rattle.registering.proofs.collect.collect.Statement.{statement}
 use Rattle.registering.proofs.collect.collect.Tie as tie

@@ -5,7 +5,7 @@ use denote.Ref.{now}
 use borrow.Author.Needs.{needs}
 use borrow.Author.Tests.{not-true, not-false}
 use Rattle.sdc_common.specs.Stars.{baseLength}
-use Rattle.registering.specs.Names.{Names, names}
+use Rattle.glue_names.specs.Names.{Names, names}
 use Rattle.registering.proofs.Collecting.{searchable, kept, full, more, room}
 use Rattle.registering.proofs.collect.get_or_generate.Statement.{statement}
 use Rattle.registering.proofs.collect.get_or_generate.Tie as tie

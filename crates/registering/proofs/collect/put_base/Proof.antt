@@ -3,7 +3,7 @@ use native.Mathlib.Omega.{arith}
 use lib.ListN.{length-set}
 use denote.Ref.{now}
 use borrow.Author.Needs.{needs}
-use Rattle.registering.proofs.Stores.{two-stores}
+use Rattle.glue_names.proofs.Stores.{two-stores}
 use Rattle.registering.proofs.collect.put_base.Statement.{statement}
 use Rattle.registering.proofs.collect.put_base.Tie as tie
 

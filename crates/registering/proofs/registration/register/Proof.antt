@@ -1,6 +1,6 @@
 -- `registering::registration::register` meets its contract: the input is refused, or what is registered is answered. Assumes nothing.
 use denote.Ref.{now}
-use Rattle.registering.specs.Names.{names}
+use Rattle.glue_names.specs.Names.{names}
 use Rattle.registering.specs.Register.{Request, request}
 use Rattle.registering.proofs.Passed.{readable, fitting}
 use Rattle.registering.proofs.Answered.{input-refused, input-passed, input-registered}

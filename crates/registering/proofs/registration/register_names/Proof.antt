@@ -1,7 +1,7 @@
 -- `registering::registration::register_names` meets its contract, by its three ways out. Assumes nothing.
 use mathlib.Core.Path.{_≡_, _∙_, sym}
 use denote.Ref.{now}
-use Rattle.registering.specs.Names.{Names, names}
+use Rattle.glue_names.specs.Names.{Names, names}
 use Rattle.registering.proofs.Registering.{too-many, list-searchable, list-long, starred, done}
 use borrow.Author.Needs.{needs}
 use Rattle.registering.proofs.registration.register_names.Statement.{statement}

@@ -1,0 +1,3 @@
+pub mod Names
+pub mod Glues
+pub mod Starred
