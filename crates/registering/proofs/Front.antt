@@ -4,7 +4,7 @@ use mathlib.Core.Path.{_≡_, refl}
 use mathlib.Core.List.{List, _++_}
 use native.Mathlib.Omega.{arith}
 use lib.ListN.{length, getD, List·getD-append}
-use Rattle.sdc_common.specs.Bases.{basesFitFrom, basesFit, findFrom, findBase}
+use Rattle.sdc_common.specs.Bases.{baseName, basesFitFrom, basesFit, findFrom, findBase}
 
 module _ (bases rest : List ℕ) where
   -- offset and length of base j
@@ -13,6 +13,9 @@ module _ (bases rest : List ℕ) where
 
   length-kept : (j : ℕ) → j + j + 1 < length bases → getD (bases ++ rest) (j + j + 1) 0 ≡ getD bases (j + j + 1) 0
   length-kept j h = List·getD-append bases rest 0 (j + j + 1) h
+
+  pub name-front : (text : List ℕ) (j : ℕ) → j + j + 1 < length bases → baseName text (bases ++ rest) j ≡ baseName text bases j
+  name-front text j h = rw (offset-kept j h, length-kept j h)
 
   find-on : (text name : List ℕ) (j k : ℕ) → j + k + (j + k) ≤ length bases → findFrom text (bases ++ rest) name j k ≡ findFrom text bases name j k
   unfolding findFrom

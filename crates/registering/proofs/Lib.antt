@@ -1,6 +1,11 @@
 pub mod Passed
 pub mod Front
 pub mod Firsts
+pub mod Places
+pub mod Brought
+pub mod Numbers
+pub mod Later
 pub mod Collecting
 pub mod Registering
 pub mod Answered
+pub mod Unique
