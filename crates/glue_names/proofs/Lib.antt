@@ -1,3 +1,4 @@
 pub mod Stores
 pub mod Filling
 pub mod Starring
+pub mod Cells

@@ -40,6 +40,10 @@ Covers n es k = (i : ℕ) → i < k → isPresent n i ≡ true → place n es i 
 abbrev pub Present : Names → List ℕ → Type 0
 Present n es = (j : ℕ) → j < length es → isPresent n (getD es j 0) ≡ true
 
+-- The entry at place j is new where j bases stand before it.
+abbrev pub InOrder : Names → List ℕ → Type 0
+InOrder n es = (j : ℕ) → j < length es → (length (firstsTo n (getD es j 0)) ≡ j) × (brings n (getD es j 0) ≡ true)
+
 module _ (n : Names) (es : List ℕ) (k : ℕ) where
   -- where the last of these is
   last-or-earlier : {A : Type 0} (m : ℕ) → m < length (es ++ (k ∷ [])) → (m ≡ length es → A) → (m < length es → A) → A
@@ -87,6 +91,18 @@ by-entry n k P f g = go (brings n k) refl
     go false e = subst P (sym (append-nil (firstsTo n k))) (f e)
 
 module _ (n : Names) where
+  -- the newest of them comes after all others
+  order-more : (k : ℕ) → brings n k ≡ true → InOrder n (firstsTo n k) → InOrder n (firstsTo n k ++ (k ∷ []))
+  order-more k e f j l =
+      last-or-earlier n (firstsTo n k) k j l
+      (λ p. subst (λ i. (length (firstsTo n i) ≡ j) × (brings n i ≡ true)) (sym (at-last n (firstsTo n k) k p)) (sym p, e))
+      (λ p. subst (λ i. (length (firstsTo n i) ≡ j) × (brings n i ≡ true)) (sym (at-earlier n (firstsTo n k) k j p)) (f j p))
+
+  pub in-order : (k : ℕ) → InOrder n (firstsTo n k)
+  unfolding firstsTo
+  in-order zero = λ j h. absurd (not-suc-le-zero h)
+  in-order (suc k) = by-entry n k (InOrder n) (λ e. in-order k) (λ e. order-more k e (in-order k))
+
   pub distinct : (k : ℕ) → Distinct n (firstsTo n k)
   unfolding firstsTo
   distinct zero = λ j m l h. absurd (not-suc-le-zero h)

@@ -32,7 +32,7 @@ use Rattle.registering.proofs.Front.{find-front, fit-front}
 pub few-pass : (es : List ℕ) → length es ≤ 127 → countVerdict es ≡ passes
 few-pass es h = rw (le-ltb 256 (length es * 2 + 1) (omega arith))
 
-many-refused : (es : List ℕ) → 127 < length es → countVerdict es ≡ refuses 15 (getD es 127 0 ∷ [])
+pub many-refused : (es : List ℕ) → 127 < length es → countVerdict es ≡ refuses 15 (getD es 127 0 ∷ [])
 many-refused es h = rw (lt-ltb 256 (length es * 2 + 1) (omega arith))
 
 passed-few : (es : List ℕ) → countVerdict es ≡ passes → length es ≤ 127

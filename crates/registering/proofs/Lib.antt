@@ -6,6 +6,7 @@ pub mod Brought
 pub mod Numbers
 pub mod Later
 pub mod Collecting
+pub mod TooMany
 pub mod Registering
 pub mod Answered
 pub mod Unique
