@@ -10,3 +10,4 @@ pub mod TooMany
 pub mod Registering
 pub mod Answered
 pub mod Unique
+pub mod Worked
