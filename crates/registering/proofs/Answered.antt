@@ -14,8 +14,9 @@ use Rattle.units.specs.Refusals.{Verdict, passes, _▷_, check, Prints}
 use Rattle.units.specs.Answers.{countRefusal}
 use Rattle.units.proofs.Answers.{a-count, refused, given}
 use Rattle.units.proofs.Verdicts.{Tabled, tabled-if, tabled-then, passed, refused-first, refused-keeps}
+use Rattle.glue_names.specs.Names.{Names}
 use Rattle.glue_names.specs.Starred.{firstStarred, starsVerdict}
-use Rattle.registering.specs.Register.{Request, firstBay, bayCount, firstsOf, isSized, isReadable, sizesVerdict, namesVerdict, countVerdict, registeredVerdict, inputVerdict, registerVerdict, registerAnswer, gluesAfter, scaffoldAfter, basesAfter}
+use Rattle.registering.specs.Register.{Request, request, firstBay, bayCount, firstsOf, isSized, isReadable, sizesVerdict, namesVerdict, countVerdict, registeredVerdict, inputVerdict, registerVerdict, registerAnswer, gluesAfter, scaffoldAfter, basesAfter}
 use Rattle.registering.specs.Steps.{Registered}
 use Rattle.registering.proofs.Passed.{bays}
 
@@ -33,40 +34,45 @@ registered-tabled q =
 register-tabled : (q : Request) → Tabled (registerVerdict q)
 register-tabled q = tabled-then (inputVerdict q) (registeredVerdict (q .names) (q .strands) (bayCount q)) (input-tabled q) (registered-tabled q)
 
--- the clauses of the call: the refusal, the answer, and each table
-abbrev pub Answered : Request → CountAnswer → (glues scaffold bases : List ℕ) → Type 0
-Answered q answer glues scaffold bases =
+-- the clauses of the call: the refusal, the answer, and each table from what it held
+abbrev pub Answered : Request → CountAnswer → (glues scaffold bases glues' scaffold' bases' : List ℕ) → Type 0
+Answered q answer glues scaffold bases glues' scaffold' bases' =
     Prints (countRefusal answer) (registerVerdict q)
-    × ((answer ≡ registerAnswer q) × ((glues ≡ gluesAfter q) × ((scaffold ≡ scaffoldAfter q) × (bases ≡ basesAfter q))))
+    × ((answer ≡ registerAnswer q) × ((glues' ≡ gluesAfter q glues) × ((scaffold' ≡ scaffoldAfter q scaffold) × (bases' ≡ basesAfter q bases))))
 
-answered-so : (q : Request) {answer : CountAnswer} {glues scaffold bases : List ℕ} → answer ≡ registerAnswer q → glues ≡ gluesAfter q → scaffold ≡ scaffoldAfter q → bases ≡ basesAfter q
-    → Answered q answer glues scaffold bases
-answered-so q e g s b =
-    let shown = given (a-count (length (firstsOf (q .names) (q .strands) (bayCount q)))) (registerVerdict q) (register-tabled q) e in
-    (shown .0, (e, (g, (s, b))))
+-- the request for these tables
+module _ (rows cols strands : ℕ) (n : Names) (glues scaffold bases : List ℕ) where
+  abbrev pub asked : Request
+  asked = request rows cols strands n (length glues) (length scaffold) (length bases)
 
-module _ (q : Request) {x : Check} (t : x ≡ check (inputVerdict q)) where
-  -- the input is refused
-  pub input-refused : {r : Refusal} → x ≡ Check·Refused r → Answered q (Refused r) (q .glues) (q .scaffold) (q .bases)
-  input-refused e =
-      let later = registeredVerdict (q .names) (q .strands) (bayCount q) in
-      let first = refused-first (inputVerdict q) later t e in
-      answered-so q
-      (refused (a-count (length (firstsOf (q .names) (q .strands) (bayCount q)))) (registerVerdict q) first refl)
-      (refused-keeps (registerVerdict q) _ (q .glues) first refl)
-      (refused-keeps (registerVerdict q) _ (q .scaffold) first refl)
-      (refused-keeps (registerVerdict q) _ (q .bases) first refl)
+  answered-so : {answer : CountAnswer} {glues' scaffold' bases' : List ℕ} → answer ≡ registerAnswer asked
+      → glues' ≡ gluesAfter asked glues → scaffold' ≡ scaffoldAfter asked scaffold → bases' ≡ basesAfter asked bases → Answered asked answer glues scaffold bases glues' scaffold' bases'
+  answered-so e g s b =
+      let shown = given (a-count (length (firstsOf n strands (bayCount asked)))) (registerVerdict asked) (register-tabled asked) e in
+      (shown .0, (e, (g, (s, b))))
 
-  -- the input has passed
-  pub input-passed : x ≡ Passed → inputVerdict q ≡ passes
-  input-passed e = passed (inputVerdict q) t e
+  module _ {x : Check} (t : x ≡ check (inputVerdict asked)) where
+    -- the input is refused
+    pub input-refused : {r : Refusal} → x ≡ Check·Refused r → Answered asked (Refused r) glues scaffold bases glues scaffold bases
+    input-refused e =
+        let v = registerVerdict asked in
+        let first = refused-first (inputVerdict asked) (registeredVerdict n strands (bayCount asked)) t e in
+        answered-so
+        (refused (a-count (length (firstsOf n strands (bayCount asked)))) v first refl)
+        (refused-keeps v _ glues first refl)
+        (refused-keeps v _ scaffold first refl)
+        (refused-keeps v _ bases first refl)
 
-  pub input-registered : x ≡ Passed → {answer : CountAnswer} {glues scaffold bases : List ℕ} → Registered (q .names) (q .strands) answer (q .glues) (q .scaffold) (q .bases) glues scaffold bases
-      → Answered q answer glues scaffold bases
-  input-registered e w =
-      let p = input-passed e in
-      answered-so q
-      (rw (p, ← bays q p) (w .answered))
-      (rw (p, ← bays q p) (w .strands-written))
-      (rw (p, ← bays q p) (w .scaffold-written))
-      (rw (p, ← bays q p) (w .bases-written))
+    -- the input has passed
+    pub input-passed : x ≡ Passed → inputVerdict asked ≡ passes
+    input-passed e = passed (inputVerdict asked) t e
+
+    pub input-registered : x ≡ Passed → {answer : CountAnswer} {glues' scaffold' bases' : List ℕ} → Registered n strands answer glues scaffold bases glues' scaffold' bases'
+        → Answered asked answer glues scaffold bases glues' scaffold' bases'
+    input-registered e w =
+        let p = input-passed e in
+        answered-so
+        (rw (p, ← bays asked p) (w .answered))
+        (rw (p, ← bays asked p) (w .strands-written))
+        (rw (p, ← bays asked p) (w .scaffold-written))
+        (rw (p, ← bays asked p) (w .bases-written))

@@ -5,6 +5,7 @@ pub mod Places
 pub mod Brought
 pub mod Numbers
 pub mod Later
+pub mod Tables
 pub mod Collecting
 pub mod TooMany
 pub mod Registering

@@ -58,11 +58,11 @@ module _ (q : Request) (p : inputVerdict q ≡ passes) where
       let both = and-eq-true-iff (eqb o (entryCount q + 1)) (eqb b (entryCount q)) .0 counts in
       (eqb-true o (entryCount q + 1) (both .0), eqb-true b (entryCount q) (both .1))
 
-  tables : (length (q .glues) ≡ q .strands * 5) × (length (q .scaffold) ≡ bayCount q) × (length (q .bases) ≡ 254)
+  tables : (q .glues ≡ q .strands * 5) × (q .scaffold ≡ bayCount q) × (q .bases ≡ 254)
   tables =
-      let g = length (q .glues) in
-      let s = length (q .scaffold) in
-      let b = length (q .bases) in
+      let g = q .glues in
+      let s = q .scaffold in
+      let b = q .bases in
       let t = length (q .names .text) in
       let o = length (q .names .offsets) in
       let m = length (q .names .present) in
@@ -72,7 +72,7 @@ module _ (q : Request) (p : inputVerdict q ≡ passes) where
       let both = and-eq-true-iff (eqb s (bayCount q)) (eqb b 254) .0 (five .1) in
       (eqb-true g (q .strands * 5) (five .0), eqb-true s (bayCount q) (both .0), eqb-true b 254 (both .1))
 
-  pub bays : length (q .scaffold) ≡ bayCount q
+  pub bays : q .scaffold ≡ bayCount q
   bays = tables .1
 
   pub readable : Readable (q .names)

@@ -31,7 +31,7 @@ kept-through : (v w : Verdict) (m : ℕ) {q : Refusal} (new old : List ℕ) → 
 kept-through passes w m new old e = cc
 kept-through (refuses number values) w m new old e = refl
 
-module _ (n : Names) (strands : ℕ) (glues scaffold bases : List ℕ) (f : Fitting n strands glues scaffold bases) where
+module _ (n : Names) (strands : ℕ) (glues scaffold bases : List ℕ) (f : Fitting n strands (length glues) (length scaffold) (length bases)) where
   -- 15: a base too many
   pub too-many : {list : List ℕ} {answer : CountAnswer} {q : Refusal} → Collected n (length (n .present)) list answer → answer ≡ Refused q
       → Registered n strands (Refused q) glues scaffold bases glues scaffold bases

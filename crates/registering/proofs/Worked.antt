@@ -14,12 +14,12 @@ use Rattle.glue_names.specs.Starred.{firstStarred}
 use Rattle.registering.specs.Bases.{basesOf, firstsTo}
 use Rattle.registering.specs.Register.{Request, request, registerVerdict, registerAnswer, gluesAfter, scaffoldAfter, basesAfter}
 
--- `aa*b**b` and the name of the last bay, tables full of sevens
+-- `aa*b**b` and the name of the last bay
 abbrev asked : (lastBay offsets : List ℕ) → Request
 asked lastBay offsets =
     request 1 2 2
     (names (97 ∷ 97 ∷ 42 ∷ 98 ∷ 42 ∷ 42 ∷ 98 ∷ lastBay) (0 ∷ 1 ∷ 3 ∷ 3 ∷ 3 ∷ 6 ∷ 7 ∷ offsets) (1 ∷ 1 ∷ 0 ∷ 1 ∷ 1 ∷ 1 ∷ 1 ∷ []))
-    (replicate 10 7) (replicate 2 7) (replicate 254 7)
+    10 2 254
 
 abbrev small : Request
 small = asked (99 ∷ 42 ∷ []) (9 ∷ [])
@@ -29,15 +29,15 @@ unfolding offsetsFrom areFlags sameBytes beforeStars findFrom firstStarred bases
 small-answer = refl
 
 -- the name of no bytes is base 1, and `b**` is `b`
-pub small-glues : gluesAfter small ≡ 0 ∷ 0 ∷ 0 ∷ 0 ∷ 0 ∷ 1 ∷ 2 ∷ 0 ∷ 3 ∷ 5 ∷ []
+pub small-glues : gluesAfter small (replicate 10 7) ≡ 0 ∷ 0 ∷ 0 ∷ 0 ∷ 0 ∷ 1 ∷ 2 ∷ 0 ∷ 3 ∷ 5 ∷ []
 unfolding offsetsFrom areFlags sameBytes beforeStars findFrom firstStarred basesOf firstsTo strandTable
 small-glues = refl
 
-pub small-scaffold : scaffoldAfter small ≡ 5 ∷ 8 ∷ []
+pub small-scaffold : scaffoldAfter small (replicate 2 7) ≡ 5 ∷ 8 ∷ []
 unfolding offsetsFrom areFlags sameBytes beforeStars findFrom firstStarred basesOf firstsTo scaffoldTable
 small-scaffold = refl
 
-pub small-bases : basesAfter small ≡ 0 ∷ 1 ∷ 3 ∷ 0 ∷ 3 ∷ 1 ∷ 7 ∷ 1 ∷ replicate 246 0
+pub small-bases : basesAfter small (replicate 254 7) ≡ 0 ∷ 1 ∷ 3 ∷ 0 ∷ 3 ∷ 1 ∷ 7 ∷ 1 ∷ replicate 246 0
 unfolding offsetsFrom areFlags sameBytes beforeStars findFrom firstStarred basesOf firstsTo
 small-bases = refl
 
@@ -49,6 +49,6 @@ pub starred-refused : registerVerdict starred ≡ refuses 16 (1 ∷ [])
 unfolding offsetsFrom areFlags sameBytes beforeStars findFrom firstStarred basesOf firstsTo
 starred-refused = refl
 
-pub starred-kept : gluesAfter starred ≡ replicate 10 7
+pub starred-kept : gluesAfter starred (replicate 10 7) ≡ replicate 10 7
 unfolding offsetsFrom areFlags sameBytes beforeStars findFrom firstStarred basesOf firstsTo
 starred-kept = refl

@@ -13,17 +13,17 @@ use Rattle.glue_names.specs.Glues.{strandTable, scaffoldTable}
 use Rattle.glue_names.specs.Starred.{starsVerdict}
 use Rattle.registering.specs.Bases.{firstsTo, basesTable}
 
--- What a call is given: the sizes, the names, and the tables as they are lent.
+-- What a call is asked: the sizes, the names, and the lengths of the lent tables.
 pub record Request : Type 0 where
   pub rows : ℕ
   pub cols : ℕ
   pub strands : ℕ
   pub names : Names
-  pub glues : List ℕ
-  pub scaffold : List ℕ
-  pub bases : List ℕ
+  pub glues : ℕ
+  pub scaffold : ℕ
+  pub bases : ℕ
 
-abbrev pub request : (rows cols strands : ℕ) → Names → (glues scaffold bases : List ℕ) → Request
+abbrev pub request : (rows cols strands : ℕ) → Names → (glues scaffold bases : ℕ) → Request
 request rows cols strands n glues scaffold bases =
     record { rows = rows; cols = cols; strands = strands; names = n; glues = glues; scaffold = scaffold; bases = bases }
 
@@ -58,7 +58,7 @@ abbrev pub isSized : Request → Bool
 isSized q =
     sizesFit (q .rows) (q .cols) (q .strands)
     && (namesFit (length (q .names .text)) (length (q .names .offsets)) (length (q .names .present)) (entryCount q)
-    && tablesFit (length (q .glues)) (length (q .scaffold)) (length (q .bases)) (q .strands) (bayCount q))
+    && tablesFit (q .glues) (q .scaffold) (q .bases) (q .strands) (bayCount q))
 
 -- 1: a size is outside its range, or a slice has the wrong length
 abbrev pub sizesVerdict : Request → Verdict
@@ -68,7 +68,7 @@ sizesVerdict q = refuseIf (not (isSized q)) 1 []
 abbrev pub isReadable : Names → Bool
 isReadable n = areFlags (n .present) && offsetsFit (length (n .text)) (n .offsets)
 
--- 17: that is not so
+-- 17: a presence byte is something else, or an offset falls or overruns
 abbrev pub namesVerdict : Names → Verdict
 namesVerdict n = refuseIf (not (isReadable n)) 17 []
 
@@ -105,12 +105,12 @@ registeredStrands n strands bays = strandTable n (registeredBases n strands bays
 abbrev pub registeredScaffold : Names → (strands bays : ℕ) → List ℕ
 registeredScaffold n strands bays = scaffoldTable n (registeredBases n strands bays) (length (firstsOf n strands bays)) (firstBay strands) bays
 
--- the lent tables afterwards: a refusal writes nothing
-abbrev pub gluesAfter : Request → List ℕ
-gluesAfter q = ifPasses (registerVerdict q) (registeredStrands (q .names) (q .strands) (bayCount q)) (q .glues)
+-- a lent table afterwards, from what it held: a refusal writes nothing
+abbrev pub gluesAfter : Request → List ℕ → List ℕ
+gluesAfter q glues = ifPasses (registerVerdict q) (registeredStrands (q .names) (q .strands) (bayCount q)) glues
 
-abbrev pub scaffoldAfter : Request → List ℕ
-scaffoldAfter q = ifPasses (registerVerdict q) (registeredScaffold (q .names) (q .strands) (bayCount q)) (q .scaffold)
+abbrev pub scaffoldAfter : Request → List ℕ → List ℕ
+scaffoldAfter q scaffold = ifPasses (registerVerdict q) (registeredScaffold (q .names) (q .strands) (bayCount q)) scaffold
 
-abbrev pub basesAfter : Request → List ℕ
-basesAfter q = ifPasses (registerVerdict q) (registeredBases (q .names) (q .strands) (bayCount q)) (q .bases)
+abbrev pub basesAfter : Request → List ℕ → List ℕ
+basesAfter q bases = ifPasses (registerVerdict q) (registeredBases (q .names) (q .strands) (bayCount q)) bases

@@ -11,11 +11,11 @@ use Rattle.registering.specs.Bases.{firstsTo, basesTable}
 use Rattle.registering.specs.Register.{firstBay, countVerdict, firstsOf, registeredVerdict, registeredStrands, registeredScaffold, registeredBases}
 
 -- lengths that fit each other
-pub record Fitting (n : Names) (strands : ℕ) (glues scaffold bases : List ℕ) : Type 0 where
+pub record Fitting (n : Names) (strands glues scaffold bases : ℕ) : Type 0 where
   pub one : 1 ≤ strands
-  pub entries : length (n .present) ≡ firstBay strands + length scaffold
-  pub five : length glues ≡ strands * 5
-  pub room : length bases ≡ 254
+  pub entries : length (n .present) ≡ firstBay strands + scaffold
+  pub five : glues ≡ strands * 5
+  pub room : bases ≡ 254
 
 -- the bases that the first k entries bring, and their count
 pub record Holds (n : Names) (k : ℕ) (bases : List ℕ) (count : ℕ) : Type 0 where

@@ -47,11 +47,11 @@ fn is_sized(
     text: &[u8],
     offsets: &[usize],
     present: &[u8],
-    glues: &[u32],
-    scaffold: &[u32],
-    bases: &[usize],
+    glues: usize,
+    scaffold: usize,
+    bases: usize,
 ) -> bool
-    ensures { λ r. ⌜ r ≡ isSized (request rows cols strands (names (now (text .entry)) (now (offsets .entry)) (now (present .entry))) (now (glues .entry)) (now (scaffold .entry)) (now (bases .entry))) ⌝ }
+    ensures { λ r. ⌜ r ≡ isSized (request rows cols strands (names (now (text .entry)) (now (offsets .entry)) (now (present .entry))) glues scaffold bases) ⌝ }
 {
     if !sizes_fit(rows, cols, strands) {
         return false;
@@ -61,7 +61,7 @@ fn is_sized(
     if !names_fit(text.len(), offsets.len(), present.len(), entries) {
         return false;
     }
-    tables_fit(glues.len(), scaffold.len(), bases.len(), strands, bays)
+    tables_fit(glues, scaffold, bases, strands, bays)
 }
 
 // Whether the names can be read.
@@ -79,11 +79,11 @@ pub fn check_input(
     text: &[u8],
     offsets: &[usize],
     present: &[u8],
-    glues: &[u32],
-    scaffold: &[u32],
-    bases: &[usize],
+    glues: usize,
+    scaffold: usize,
+    bases: usize,
 ) -> Check
-    ensures { λ r. ⌜ r ≡ check (inputVerdict (request rows cols strands (names (now (text .entry)) (now (offsets .entry)) (now (present .entry))) (now (glues .entry)) (now (scaffold .entry)) (now (bases .entry)))) ⌝ }
+    ensures { λ r. ⌜ r ≡ check (inputVerdict (request rows cols strands (names (now (text .entry)) (now (offsets .entry)) (now (present .entry))) glues scaffold bases)) ⌝ }
 {
     if !is_sized(
         rows,

@@ -1,7 +1,7 @@
 // Pass one: which bases the entries bring, and whether they are too many.
 ghost use mathlib.Core.Path.{_≡_};
 ghost use Prim.Native.Nat.{_+_, _≤_, _<_};
-ghost use mathlib.Core.List.{[], _∷_, _++_};
+ghost use mathlib.Core.List.{_∷_, _++_};
 ghost use lib.ListN.{length, take, drop, replicate};
 ghost use Rattle.glue_names.specs.Names.{names, Readable};
 ghost use Rattle.glue_names.specs.Glues.{Searchable};

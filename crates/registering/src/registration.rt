@@ -41,7 +41,7 @@ fn write_tables(
 )
     requires { ⌜ Readable (names (now text) (now offsets) (now present)) ⌝ }
     requires { ⌜ Searchable (names (now text) (now offsets) (now present)) (now list) count ⌝ }
-    requires { ⌜ Fitting (names (now text) (now offsets) (now present)) strands (now glues) (now scaffold) (now bases) ⌝ }
+    requires { ⌜ Fitting (names (now text) (now offsets) (now present)) strands (length (now glues)) (length (now scaffold)) (length (now bases)) ⌝ }
     requires { ⌜ length (now list) ≡ 254 ⌝ }
     ensures glues { λ _. ⌜ now (glues .exit) ≡ strandTable (names (now (text .entry)) (now (offsets .entry)) (now (present .entry))) (now (list .entry)) count strands ⌝ }
     ensures scaffold { λ _. ⌜ now (scaffold .exit) ≡ scaffoldTable (names (now (text .entry)) (now (offsets .entry)) (now (present .entry))) (now (list .entry)) count (firstBay strands) (length (now (scaffold .entry))) ⌝ }
@@ -71,7 +71,7 @@ fn register_names(
     bases: &mut [usize],
 ) -> CountAnswer
     requires { ⌜ Readable (names (now text) (now offsets) (now present)) ⌝ }
-    requires { ⌜ Fitting (names (now text) (now offsets) (now present)) strands (now glues) (now scaffold) (now bases) ⌝ }
+    requires { ⌜ Fitting (names (now text) (now offsets) (now present)) strands (length (now glues)) (length (now scaffold)) (length (now bases)) ⌝ }
     ensures { λ r. ⌜ Registered (names (now (text .entry)) (now (offsets .entry)) (now (present .entry))) strands r (now (glues .entry)) (now (scaffold .entry)) (now (bases .entry)) (now (glues .exit)) (now (scaffold .exit)) (now (bases .exit)) ⌝ }
 {
     let mut list = [0usize; 254];
@@ -109,11 +109,11 @@ pub fn register(
     scaffold: &mut [u32],
     bases: &mut [usize],
 ) -> CountAnswer
-    ensures refusal { λ r. ⌜ Prints (countRefusal r) (registerVerdict (request rows cols strands (names (now (text .entry)) (now (offsets .entry)) (now (present .entry))) (now («strand_glues» .entry)) (now (scaffold .entry)) (now (bases .entry)))) ⌝ }
-    ensures answer { λ r. ⌜ r ≡ registerAnswer (request rows cols strands (names (now (text .entry)) (now (offsets .entry)) (now (present .entry))) (now («strand_glues» .entry)) (now (scaffold .entry)) (now (bases .entry))) ⌝ }
-    ensures glues { λ _. ⌜ now («strand_glues» .exit) ≡ gluesAfter (request rows cols strands (names (now (text .entry)) (now (offsets .entry)) (now (present .entry))) (now («strand_glues» .entry)) (now (scaffold .entry)) (now (bases .entry))) ⌝ }
-    ensures scaffold { λ _. ⌜ now (scaffold .exit) ≡ scaffoldAfter (request rows cols strands (names (now (text .entry)) (now (offsets .entry)) (now (present .entry))) (now («strand_glues» .entry)) (now (scaffold .entry)) (now (bases .entry))) ⌝ }
-    ensures bases { λ _. ⌜ now (bases .exit) ≡ basesAfter (request rows cols strands (names (now (text .entry)) (now (offsets .entry)) (now (present .entry))) (now («strand_glues» .entry)) (now (scaffold .entry)) (now (bases .entry))) ⌝ }
+    ensures refusal { λ r. ⌜ Prints (countRefusal r) (registerVerdict (request rows cols strands (names (now (text .entry)) (now (offsets .entry)) (now (present .entry))) (length (now («strand_glues» .entry))) (length (now (scaffold .entry))) (length (now (bases .entry))))) ⌝ }
+    ensures answer { λ r. ⌜ r ≡ registerAnswer (request rows cols strands (names (now (text .entry)) (now (offsets .entry)) (now (present .entry))) (length (now («strand_glues» .entry))) (length (now (scaffold .entry))) (length (now (bases .entry)))) ⌝ }
+    ensures glues { λ _. ⌜ now («strand_glues» .exit) ≡ gluesAfter (request rows cols strands (names (now (text .entry)) (now (offsets .entry)) (now (present .entry))) (length (now («strand_glues» .entry))) (length (now (scaffold .entry))) (length (now (bases .entry)))) (now («strand_glues» .entry)) ⌝ }
+    ensures scaffold { λ _. ⌜ now (scaffold .exit) ≡ scaffoldAfter (request rows cols strands (names (now (text .entry)) (now (offsets .entry)) (now (present .entry))) (length (now («strand_glues» .entry))) (length (now (scaffold .entry))) (length (now (bases .entry)))) (now (scaffold .entry)) ⌝ }
+    ensures bases { λ _. ⌜ now (bases .exit) ≡ basesAfter (request rows cols strands (names (now (text .entry)) (now (offsets .entry)) (now (present .entry))) (length (now («strand_glues» .entry))) (length (now (scaffold .entry))) (length (now (bases .entry)))) (now (bases .entry)) ⌝ }
 {
     match check_input(
         rows,
@@ -122,9 +122,9 @@ pub fn register(
         text,
         offsets,
         present,
-        strand_glues,
-        scaffold,
-        bases,
+        strand_glues.len(),
+        scaffold.len(),
+        bases.len(),
     ) {
         Check::Refused(r) => CountAnswer::Refused(r),
         Check::Passed => register_names(

@@ -14,7 +14,7 @@ returns : tie.Need-returns
 returns c = rw (sym (c .before .sizes-fit .ensures) ∙ not-true _ (c .if1 .taken))
 
 -- past the first test
-sized : (c : tie.Else1) → let args = c .before .before .before .before .before .before .before .before .args in InSizes (args .rows) (args .cols) (args .strands)
+sized : (c : tie.Else1) → let args = c .before .before .before .before .before .args in InSizes (args .rows) (args .cols) (args .strands)
 sized c = in-sizes _ _ _ (sym (c .before .sizes-fit .ensures) ∙ not-false _ (c .if1 .left))
 
 mul-bays : tie.Need-mul-bays

@@ -1,18 +1,15 @@
 -- `registering::registration::register` meets its contract: the input is refused, or what is registered is answered. Assumes nothing.
 use denote.Ref.{now}
-use Rattle.glue_names.specs.Names.{names}
-use Rattle.registering.specs.Register.{Request, request}
+use Rattle.glue_names.specs.Names.{Names, names}
 use Rattle.registering.proofs.Passed.{readable, fitting}
-use Rattle.registering.proofs.Answered.{input-refused, input-passed, input-registered}
+use Rattle.registering.proofs.Answered.{asked, input-refused, input-passed, input-registered}
 use borrow.Author.Needs.{needs}
 use Rattle.registering.proofs.registration.register.Statement.{statement}
 use Rattle.registering.proofs.registration.register.Tie as tie
 
--- the request at entry
-abbrev asked : tie.Start → Request
-asked s =
-    request (s .args .rows) (s .args .cols) (s .args .strands) (names (now (s .args .text)) (now (s .args .offsets)) (now (s .args .present)))
-    (now (s .args .strand-glues)) (now (s .args .scaffold)) (now (s .args .bases))
+-- the names at entry
+abbrev given : tie.Start → Names
+given s = names (now (s .args .text)) (now (s .args .offsets)) (now (s .args .present))
 
 check-input-requires : tie.Need-check-input-requires
 check-input-requires c κs = search needs
@@ -27,9 +24,16 @@ register-names-requires : tie.Need-register-names-requires
 register-names-requires c κs =
     let told = c .before .before .before in
     let test = told .before .before in
-    let s = test .before .before .before .before .before .before .before .before .before .before in
-    let p = input-passed (asked s) (test .check-input .ensures) (told .enum-told .given .1) in
-    (readable (asked s) p, fitting (asked s) p)
+    let s = test .before .before .before .before .before .before .before in
+    let q = asked (s .args .rows) (s .args .cols) (s .args .strands) (given s) (now (s .args .strand-glues)) (now (s .args .scaffold)) (now (s .args .bases)) in
+    let p = input-passed (s .args .rows) (s .args .cols) (s .args .strands) (given s) (now (s .args .strand-glues)) (now (s .args .scaffold)) (now (s .args .bases)) (test .check-input .ensures) (told .enum-told .given .1) in
+    (readable q p, fitting q p)
+
+returns : tie.Need-returns
+returns c =
+    let test = c .before .before .before in
+    let s = test .before .before .before .before .before .before .before in
+    input-refused (s .args .rows) (s .args .cols) (s .args .strands) (given s) (now (s .args .strand-glues)) (now (s .args .scaffold)) (now (s .args .bases)) (test .check-input .ensures) (c .before .r .given .1)
 
 same-length : tie.Need-same-length
 same-length c = search needs
@@ -40,28 +44,13 @@ same-length-2 c = search needs
 same-length-3 : tie.Need-same-length-3
 same-length-3 c = search needs
 
-returns : tie.Need-returns
-returns c =
-    let test = c .before .before .before in
-    let s = test .before .before .before .before .before .before .before .before .before .before in
-    input-refused (asked s) (test .check-input .ensures) (c .before .r .given .1)
-
-same-length-4 : tie.Need-same-length-4
-same-length-4 c = search needs
-
-same-length-5 : tie.Need-same-length-5
-same-length-5 c = search needs
-
-same-length-6 : tie.Need-same-length-6
-same-length-6 c = search needs
-
 returns-2 : tie.Need-returns-2
 returns-2 c =
     let call = c .before .before .before .before .before .before in
     let told = call .before .before .before .before in
     let test = told .before .before in
-    let s = test .before .before .before .before .before .before .before .before .before .before in
-    input-registered (asked s) (test .check-input .ensures) (told .enum-told .given .1) (call .register-names .ensures)
+    let s = test .before .before .before .before .before .before .before in
+    input-registered (s .args .rows) (s .args .cols) (s .args .strands) (given s) (now (s .args .strand-glues)) (now (s .args .scaffold)) (now (s .args .bases)) (test .check-input .ensures) (told .enum-told .given .1) (call .register-names .ensures)
 
 pub register-spec : {M : Type 1} → statement M
 register-spec =
@@ -71,11 +60,8 @@ register-spec =
     enum-known-r
     enum-told
     register-names-requires
+    returns
     same-length
     same-length-2
     same-length-3
-    returns
-    same-length-4
-    same-length-5
-    same-length-6
     returns-2)
