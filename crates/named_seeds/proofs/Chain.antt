@@ -1,21 +1,22 @@
 -- What all tests of named seeds come to, test by test, and what they tell where they pass. Assumes nothing.
 use Prim.Native.Nat.{ℕ, zero, suc, _+_, _*_, _/_, _%_, _≤_, _<_}
 use mathlib.Core.Path.{_≡_, refl}
-use mathlib.Core.Bool.{Bool, true, false, not, _&&_}
+use mathlib.Core.Bool.{true, false, not, _&&_}
 use mathlib.Core.List.{List, [], _∷_}
 use native.Mathlib.Omega.{arith}
 use lib.Dec.{leb, ltb, eqb}
-use lib.ListN.{length}
+use lib.ListN.{length, getD}
 use borrow.Author.Tests.{leb-true, eqb-true}
-use Rattle.units.specs.Refusals.{Verdict, passes, refuses, _▷_}
+use Rattle.units.specs.Refusals.{passes, refuses, _▷_}
 use Rattle.units.proofs.Verdicts.{first-passes, rest-passes, Tabled, tabled-if, tabled-then}
 use Rattle.entries.specs.Entries.{offsetsFit}
 use Rattle.entries.proofs.Same.{both}
 use Rattle.tile_names.specs.Names.{Names, namesSized, namesRead, Readable}
 use Rattle.tile_names.proofs.Passed.{sized, first-there, readable}
 use Rattle.tile_names.proofs.Tile.{no-fault-found}
-use Rattle.named_seeds.specs.Seeds.{SeedList, seedCount, seedRow, seedCol, seedName, gridSized, seedsSized, sizesRight, textsRight, seedsSizes, seedsReading, tileCount, seedStrand, seedOffGrid, seedUnknown, seedVerdict, eachSeed, seedsVerdict, SeedsReadable}
-use Rattle.named_seeds.proofs.EachSeed.{Placed, all-placed}
+use Rattle.named_seeds.specs.Seeds.{SeedList, seedCount, seedRow, seedCol, seedName, gridSized, seedsSized, sizesRight, textsRight, seedsSizes, seedsReading, tileCount, seedStrand, seedOffGrid, seedUnknown, seedVerdict, eachSeed, seedsVerdict, seedTriples, SeedsReadable}
+use Rattle.named_seeds.proofs.EachSeed.{all-placed}
+use Rattle.named_seeds.proofs.Triples.{each-triple}
 
 module _ (rows cols strands : ℕ) (n : Names) (s : SeedList) (table : ℕ) where
   pub sizes-wrong : sizesRight rows cols strands n s table ≡ false → seedsVerdict rows cols strands n s table ≡ refuses 1 []
@@ -126,3 +127,21 @@ seeds-tabled rows cols strands n s table =
     (tabled-then (seedsReading n s) _
     (tabled-if (not (textsRight n s)) 17 [] refl)
     (each-tabled rows cols n s 0 (seedCount s)))
+
+-- the seeds of a table that was filled lie on the grid and have strands below the count, as a system asks of its seeds
+pub record Taken (rows cols strands : ℕ) (table : List ℕ) (k : ℕ) : Type 0 where
+  pub row : getD table (3 * k) 0 < rows
+  pub col : getD table (3 * k + 1) 0 < cols
+  pub strand : getD table (3 * k + 2) 0 < strands
+
+pub filled-seeds-are-taken : (rows cols strands : ℕ) (n : Names) (s : SeedList) (table k : ℕ) → seedsVerdict rows cols strands n s table ≡ passes → k < seedCount s
+    → Taken rows cols strands (seedTriples n s (seedCount s)) k
+unfolding seedsVerdict
+filled-seeds-are-taken rows cols strands n s table k e h =
+    let sizes = seedsSizes rows cols strands n s table in
+    let each = eachSeed rows cols n s 0 (seedCount s) in
+    let t = fitting rows cols strands n s table (no-fault-found _ 1 [] (first-passes sizes (seedsReading n s ▷ each) e)) in
+    let count = sized strands (n .text) (n .offsets) (n .present) (t .names) .byte-count in
+    let p = all-placed rows cols n s (seedCount s) k (rest-passes (seedsReading n s) each (rest-passes sizes (seedsReading n s ▷ each) e)) h in
+    let at = each-triple n s (seedCount s) k h in
+    record { row = rw (at .row) (p .row); col = rw (at .col) (p .col); strand = rw (at .strand, ← count) (p .strand) }

@@ -1,17 +1,15 @@
 -- What the tests of one seed come to, how they go on seed by seed, and what they tell where they pass. Assumes nothing.
 use Prim.Native.Nat.{ℕ, zero, suc, _+_, _-_, _≤_, _<_}
-use mathlib.Core.Path.{_≡_, refl}
-use mathlib.Core.Bool.{Bool, _&&_}
-use mathlib.Core.List.{List, [], _∷_}
+use mathlib.Core.Path.{_≡_}
+use mathlib.Core.List.{[], _∷_}
 use native.Mathlib.Nat.{not-suc-le-zero, le-of-suc-le-suc, zero-add, add-zero, add-suc, suc-add}
 use native.Mathlib.Numerals.{add-one}
-use native.Mathlib.Omega.{arith}
 use lib.Dec.{ltb}
 use borrow.Author.Tests.{lt-ltb, le-ltb, ltb-true}
 use Rattle.units.specs.declared.Refusal.{Refusal}
 use Rattle.units.specs.declared.Check.{Check}
 use Rattle.units.specs.declared.Check.the-variants.{Refused}
-use Rattle.units.specs.Refusals.{Verdict, passes, refuses, _▷_, check}
+use Rattle.units.specs.Refusals.{passes, refuses, check}
 use Rattle.units.proofs.Verdicts.{refused-first, first-passes, rest-passes}
 use Rattle.entries.proofs.Same.{both}
 use Rattle.tile_names.specs.Names.{Names}

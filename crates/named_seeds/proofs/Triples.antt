@@ -1,11 +1,15 @@
 -- How the table of triples is filled, one triple after the other. Assumes nothing.
 use Prim.Native.Nat.{ℕ, zero, suc, _+_, _*_, _≤_, _<_}
-use mathlib.Core.Path.{_≡_, refl, sym, _∙_, ap}
+use mathlib.Core.Path.{_≡_, refl, sym, _∙_, ap, subst}
+use mathlib.Core.Bool.{Bool, true, false}
 use mathlib.Core.List.{List, [], _∷_, _++_, append-assoc, append-nil}
+use native.Mathlib.Nat.{not-suc-le-zero, add-zero}
 use native.Mathlib.Numerals.{add-one, add-two}
 use native.Mathlib.Omega.{arith}
-use lib.ListN.{length, take, drop, set, length-append, drop-of-length-le}
-use lib.Seq.{sets-eq, take-at, drop-append-add, drop-drop}
+use lib.Dec.{ltb}
+use lib.ListN.{length, getD, take, drop, set, length-append, drop-of-length-le, List·getD-append}
+use lib.Seq.{sets-eq, take-at, drop-append-add, drop-drop, getD-append-add}
+use borrow.Author.Tests.{ltb-true, ltb-false}
 use Rattle.tile_names.specs.Names.{Names}
 use Rattle.named_seeds.specs.Seeds.{SeedList, seedRow, seedCol, seedName, seedStrand, seedTriples}
 
@@ -51,3 +55,44 @@ filled n s old front k count h g size e =
     let all : k ≡ count = omega arith in
     let none : drop (3 * count) old ≡ [] = drop-of-length-le old {i = 3 * count} (omega arith) in
     e ∙ rw (all, none) (append-nil (seedTriples n s count))
+
+-- what stands in the table, place by place: row, column and strand of seed k
+pub record Triple (n : Names) (s : SeedList) (table : List ℕ) (k : ℕ) : Type 0 where
+  pub row : getD table (3 * k) 0 ≡ seedRow s k
+  pub col : getD table (3 * k + 1) 0 ≡ seedCol s k
+  pub strand : getD table (3 * k + 2) 0 ≡ seedStrand n (seedName s k)
+
+-- a place in the last triple, and one before it
+in-last : (front last : List ℕ) (i j : ℕ) → length front ≡ i → getD (front ++ last) (i + j) 0 ≡ getD last j 0
+in-last front last i j size = ap (λ m. getD (front ++ last) (m + j) 0) (sym size) ∙ getD-append-add front last j 0
+
+pub each-triple : (n : Names) (s : SeedList) (count k : ℕ) → k < count → Triple n s (seedTriples n s count) k
+unfolding seedTriples
+each-triple n s zero k h = absurd (not-suc-le-zero h)
+each-triple n s (suc count) k h = either (ltb k count) refl (each-triple n s count k)
+  where
+    front : List ℕ
+    front = seedTriples n s count
+
+    last : List ℕ
+    last = seedRow s count ∷ seedCol s count ∷ seedStrand n (seedName s count) ∷ []
+
+    size : length front ≡ 3 * count
+    size = length-triples n s count
+
+    either : (t : Bool) → ltb k count ≡ t → (k < count → Triple n s front k) → Triple n s (front ++ last) k
+    either true e before =
+        let below = ltb-true k count e in
+        let t = before below in
+        record {
+          row = List·getD-append front last 0 (3 * k) (omega (arith, size)) ∙ t .row;
+          col = List·getD-append front last 0 (3 * k + 1) (omega (arith, size)) ∙ t .col;
+          strand = List·getD-append front last 0 (3 * k + 2) (omega (arith, size)) ∙ t .strand;
+        }
+    either false e before =
+        let same : count ≡ k = omega (arith, ltb-false k count e) in
+        subst (Triple n s (front ++ last)) same (record {
+          row = rw (add-zero (3 * count)) at (in-last front last (3 * count) 0 size);
+          col = in-last front last (3 * count) 1 size;
+          strand = in-last front last (3 * count) 2 size;
+        })

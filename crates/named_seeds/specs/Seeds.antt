@@ -1,11 +1,11 @@
 -- Seeds that are given by name: the tests in their order, and the triples that they become. Assumes nothing.
-use Prim.Native.Nat.{ℕ, zero, suc, _+_, _*_, _/_, _%_}
+use Prim.Native.Nat.{ℕ, zero, suc, _+_, _*_, _/_, _%_, _<_}
 use mathlib.Core.Path.{_≡_}
 use mathlib.Core.Bool.{Bool, true, cond, not, _&&_}
 use mathlib.Core.List.{List, [], _∷_, _++_}
 use lib.Dec.{leb, ltb, eqb}
 use lib.ListN.{length, getD}
-use Rattle.units.specs.Refusals.{Verdict, passes, refuseIf, _▷_}
+use Rattle.units.specs.Refusals.{Verdict, passes, refuseIf, _▷_, ifPasses}
 use Rattle.entries.specs.Entries.{entryOf, offsetsFit, sameBytes}
 use Rattle.tile_names.specs.Names.{Names, namesSized, namesRead, shownName}
 
@@ -96,8 +96,17 @@ unfoldable pub seedTriples : Names → SeedList → (k : ℕ) → List ℕ
 seedTriples n s zero = []
 seedTriples n s (suc k) = seedTriples n s k ++ (seedRow s k ∷ seedCol s k ∷ seedStrand n (seedName s k) ∷ [])
 
+-- the lent table afterwards: the triples of all seeds, or what it held where a test refuses
+abbrev pub seedsAfter : (rows cols strands : ℕ) → Names → SeedList → (old : List ℕ) → List ℕ
+seedsAfter rows cols strands n s old = ifPasses (seedsVerdict rows cols strands n s (length old)) (seedTriples n s (seedCount s)) old
+
 -- What passed tests tell of the seeds.
 pub record SeedsReadable (s : SeedList) : Type 0 where
   pub pairs : length (s .places) ≡ 2 * seedCount s
   pub counts : length (s .offsets) ≡ seedCount s + 1
   pub offsets-fit : offsetsFit (length (s .text)) (s .offsets) ≡ true
+
+-- The first tile with a shown name, in words.
+pub record FirstWith (n : Names) (name : List ℕ) (tile : ℕ) : Type 0 where
+  pub shows : shownName n tile ≡ name
+  pub none-before : (earlier : ℕ) → earlier < tile → shownName n earlier ≡ name → ⊥

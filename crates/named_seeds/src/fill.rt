@@ -30,9 +30,12 @@ pub fn fill_seeds(
 )
     requires { ⌜ Readable (names (now text) (now offsets) (now present) (now numerals)) ⌝ }
     requires { ⌜ SeedsReadable (seedList (now places) (now «seed_text») (now «seed_offsets»)) ⌝ }
-    requires { ⌜ ((k : ℕ) → k < seedCount (seedList (now places) (now «seed_text») (now «seed_offsets»)) → (seedRow (seedList (now places) (now «seed_text») (now «seed_offsets»)) k < 32) × (seedCol (seedList (now places) (now «seed_text») (now «seed_offsets»)) k < 32)) ⌝ }
+    requires { let s = seedList (now places) (now «seed_text») (now «seed_offsets») in
+        ⌜ ((k : ℕ) → k < seedCount s → (seedRow s k < 32) × (seedCol s k < 32)) ⌝ }
     requires { ⌜ length (now seeds) ≡ 3 * seedCount (seedList (now places) (now «seed_text») (now «seed_offsets»)) ⌝ }
-    ensures { λ _. ⌜ now (seeds .exit) ≡ seedTriples (names (now (text .entry)) (now (offsets .entry)) (now (present .entry)) (now (numerals .entry))) (seedList (now (places .entry)) (now («seed_text» .entry)) (now («seed_offsets» .entry))) (seedCount (seedList (now (places .entry)) (now («seed_text» .entry)) (now («seed_offsets» .entry)))) ⌝ }
+    ensures { λ _. let n = names (now (text .entry)) (now (offsets .entry)) (now (present .entry)) (now (numerals .entry)) in
+        let s = seedList (now (places .entry)) (now («seed_text» .entry)) (now («seed_offsets» .entry)) in
+        ⌜ now (seeds .exit) ≡ seedTriples n s (seedCount s) ⌝ }
 {
     let mut k = 0;
     while k < places.len() / 2 {

@@ -18,7 +18,8 @@ fn first_shown(
     name: &[u8],
 ) -> usize
     requires { ⌜ Readable (names (now text) (now offsets) (now present) (now numerals)) ⌝ }
-    ensures { λ r. ⌜ (r ≡ seedStrand (names (now (text .entry)) (now (offsets .entry)) (now (present .entry)) (now (numerals .entry))) (now (name .entry))) × (r ≤ length (now (present .entry))) ⌝ }
+    ensures { λ r. let n = names (now (text .entry)) (now (offsets .entry)) (now (present .entry)) (now (numerals .entry)) in
+        ⌜ (r ≡ seedStrand n (now (name .entry))) × (r ≤ length (now (present .entry))) ⌝ }
 {
     let mut tile = 0;
     while tile < present.len() {
@@ -43,7 +44,8 @@ pub fn seed_strand(
     requires { ⌜ Readable (names (now text) (now offsets) (now present) (now numerals)) ⌝ }
     requires { ⌜ k + 1 < length (now «seed_offsets») ⌝ }
     requires { ⌜ offsetsFit (length (now «seed_text»)) (now «seed_offsets») ≡ true ⌝ }
-    ensures { λ r. ⌜ (r ≡ seedStrand (names (now (text .entry)) (now (offsets .entry)) (now (present .entry)) (now (numerals .entry))) (entryOf (now («seed_text» .entry)) (now («seed_offsets» .entry)) k)) × (r ≤ length (now (present .entry))) ⌝ }
+    ensures { λ r. let n = names (now (text .entry)) (now (offsets .entry)) (now (present .entry)) (now (numerals .entry)) in
+        ⌜ (r ≡ seedStrand n (entryOf (now («seed_text» .entry)) (now («seed_offsets» .entry)) k)) × (r ≤ length (now (present .entry))) ⌝ }
 {
     first_shown(
         text,

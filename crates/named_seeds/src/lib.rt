@@ -1,9 +1,9 @@
 // Seeds that are given by name.
 ghost use mathlib.Core.Path.{_≡_};
 ghost use lib.ListN.{length};
-ghost use Rattle.units.specs.Refusals.{check, ifPasses, Prints};
+ghost use Rattle.units.specs.Refusals.{check, Prints};
 ghost use Rattle.tile_names.specs.Names.{names};
-ghost use Rattle.named_seeds.specs.Seeds.{seedList, seedCount, seedsVerdict, seedTriples};
+ghost use Rattle.named_seeds.specs.Seeds.{seedList, seedsVerdict, seedsAfter};
 
 mod fill;
 mod find;
@@ -27,9 +27,15 @@ pub fn seeds_by_name(
     seed_offsets: &[usize],
     seeds: &mut [u32],
 ) -> Check
-    ensures refusal { λ r. ⌜ Prints r (seedsVerdict rows cols strands (names (now (text .entry)) (now (offsets .entry)) (now (present .entry)) (now (numerals .entry))) (seedList (now (places .entry)) (now («seed_text» .entry)) (now («seed_offsets» .entry))) (length (now (seeds .entry)))) ⌝ }
-    ensures answer { λ r. ⌜ r ≡ check (seedsVerdict rows cols strands (names (now (text .entry)) (now (offsets .entry)) (now (present .entry)) (now (numerals .entry))) (seedList (now (places .entry)) (now («seed_text» .entry)) (now («seed_offsets» .entry))) (length (now (seeds .entry)))) ⌝ }
-    ensures table { λ r. ⌜ now (seeds .exit) ≡ ifPasses (seedsVerdict rows cols strands (names (now (text .entry)) (now (offsets .entry)) (now (present .entry)) (now (numerals .entry))) (seedList (now (places .entry)) (now («seed_text» .entry)) (now («seed_offsets» .entry))) (length (now (seeds .entry)))) (seedTriples (names (now (text .entry)) (now (offsets .entry)) (now (present .entry)) (now (numerals .entry))) (seedList (now (places .entry)) (now («seed_text» .entry)) (now («seed_offsets» .entry))) (seedCount (seedList (now (places .entry)) (now («seed_text» .entry)) (now («seed_offsets» .entry))))) (now (seeds .entry)) ⌝ }
+    ensures refusal { λ r. let n = names (now (text .entry)) (now (offsets .entry)) (now (present .entry)) (now (numerals .entry)) in
+        let s = seedList (now (places .entry)) (now («seed_text» .entry)) (now («seed_offsets» .entry)) in
+        ⌜ Prints r (seedsVerdict rows cols strands n s (length (now (seeds .entry)))) ⌝ }
+    ensures answer { λ r. let n = names (now (text .entry)) (now (offsets .entry)) (now (present .entry)) (now (numerals .entry)) in
+        let s = seedList (now (places .entry)) (now («seed_text» .entry)) (now («seed_offsets» .entry)) in
+        ⌜ r ≡ check (seedsVerdict rows cols strands n s (length (now (seeds .entry)))) ⌝ }
+    ensures table { λ r. let n = names (now (text .entry)) (now (offsets .entry)) (now (present .entry)) (now (numerals .entry)) in
+        let s = seedList (now (places .entry)) (now («seed_text» .entry)) (now («seed_offsets» .entry)) in
+        ⌜ now (seeds .exit) ≡ seedsAfter rows cols strands n s (now (seeds .entry)) ⌝ }
 {
     match check_named_seeds(
         rows,

@@ -75,7 +75,9 @@ fn check_seed(
     requires { ⌜ Readable (names (now text) (now offsets) (now present) (now numerals)) ⌝ }
     requires { ⌜ SeedsReadable (seedList (now places) (now «seed_text») (now «seed_offsets»)) ⌝ }
     requires { ⌜ k < seedCount (seedList (now places) (now «seed_text») (now «seed_offsets»)) ⌝ }
-    ensures { λ r. ⌜ r ≡ check (seedVerdict rows cols (names (now (text .entry)) (now (offsets .entry)) (now (present .entry)) (now (numerals .entry))) (seedList (now (places .entry)) (now («seed_text» .entry)) (now («seed_offsets» .entry))) k) ⌝ }
+    ensures { λ r. let n = names (now (text .entry)) (now (offsets .entry)) (now (present .entry)) (now (numerals .entry)) in
+        let s = seedList (now (places .entry)) (now («seed_text» .entry)) (now («seed_offsets» .entry)) in
+        ⌜ r ≡ check (seedVerdict rows cols n s k) ⌝ }
 {
     if rows <= places[2 * k] {
         return refused(4, k);
@@ -103,7 +105,9 @@ fn check_seeds(
 ) -> Check
     requires { ⌜ Readable (names (now text) (now offsets) (now present) (now numerals)) ⌝ }
     requires { ⌜ SeedsReadable (seedList (now places) (now «seed_text») (now «seed_offsets»)) ⌝ }
-    ensures { λ r. ⌜ r ≡ check (eachSeed rows cols (names (now (text .entry)) (now (offsets .entry)) (now (present .entry)) (now (numerals .entry))) (seedList (now (places .entry)) (now («seed_text» .entry)) (now («seed_offsets» .entry))) 0 (seedCount (seedList (now (places .entry)) (now («seed_text» .entry)) (now («seed_offsets» .entry))))) ⌝ }
+    ensures { λ r. let n = names (now (text .entry)) (now (offsets .entry)) (now (present .entry)) (now (numerals .entry)) in
+        let s = seedList (now (places .entry)) (now («seed_text» .entry)) (now («seed_offsets» .entry)) in
+        ⌜ r ≡ check (eachSeed rows cols n s 0 (seedCount s)) ⌝ }
 {
     let mut k = 0;
     while k < places.len() / 2 {
@@ -140,7 +144,11 @@ fn all_sized(
     seed_offsets: &[usize],
     table: usize,
 ) -> bool
-    ensures { λ r. ⌜ r ≡ (gridSized rows cols && (namesSized strands (now (text .entry)) (now (offsets .entry)) (now (present .entry)) && seedsSized (now (places .entry)) (now («seed_text» .entry)) (now («seed_offsets» .entry)) table)) ⌝ }
+    ensures { λ r.
+        ⌜ r
+        ≡ (gridSized rows cols
+        && (namesSized strands (now (text .entry)) (now (offsets .entry)) (now (present .entry))
+        && seedsSized (now (places .entry)) (now («seed_text» .entry)) (now («seed_offsets» .entry)) table)) ⌝ }
 {
     if !grid_sized(rows, cols) {
         return false;
@@ -161,7 +169,10 @@ fn all_read(
     seed_offsets: &[usize],
 ) -> bool
     requires { ⌜ (1 < length (now offsets)) × (0 < length (now present)) ⌝ }
-    ensures { λ r. ⌜ r ≡ (namesRead (now (text .entry)) (now (offsets .entry)) (now (present .entry)) (now (numerals .entry)) && offsetsFit (length (now («seed_text» .entry))) (now («seed_offsets» .entry))) ⌝ }
+    ensures { λ r.
+        ⌜ r
+        ≡ (namesRead (now (text .entry)) (now (offsets .entry)) (now (present .entry)) (now (numerals .entry))
+        && offsetsFit (length (now («seed_text» .entry))) (now («seed_offsets» .entry))) ⌝ }
 {
     if !names_read(text, offsets, present, numerals) {
         return false;
@@ -183,7 +194,9 @@ pub fn check_named_seeds(
     seed_offsets: &[usize],
     table: usize,
 ) -> Check
-    ensures { λ r. ⌜ r ≡ check (seedsVerdict rows cols strands (names (now (text .entry)) (now (offsets .entry)) (now (present .entry)) (now (numerals .entry))) (seedList (now (places .entry)) (now («seed_text» .entry)) (now («seed_offsets» .entry))) table) ⌝ }
+    ensures { λ r. let n = names (now (text .entry)) (now (offsets .entry)) (now (present .entry)) (now (numerals .entry)) in
+        let s = seedList (now (places .entry)) (now («seed_text» .entry)) (now («seed_offsets» .entry)) in
+        ⌜ r ≡ check (seedsVerdict rows cols strands n s table) ⌝ }
 {
     if !all_sized(
         rows,

@@ -1,2 +1,4 @@
 pub mod Passed
 pub mod Tile
+pub mod Shown
+pub mod Unique

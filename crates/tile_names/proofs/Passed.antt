@@ -1,13 +1,13 @@
 -- What passed tests tell of names, and where the parts that are shown lie. Assumes nothing.
 use Prim.Native.Nat.{ℕ, zero, suc, _+_, _-_, _≤_, _<_}
-use mathlib.Core.Path.{_≡_, refl, sym, _∙_, ap}
-use mathlib.Core.Bool.{Bool, true, false, cond, not, _&&_}
-use mathlib.Core.List.{List, [], _∷_}
+use mathlib.Core.Path.{_≡_, sym, _∙_, ap}
+use mathlib.Core.Bool.{Bool, true, false, not}
+use mathlib.Core.List.{List}
 use native.Mathlib.Omega.{arith}
-use lib.Dec.{leb, ltb, eqb}
+use lib.Dec.{leb, eqb}
 use lib.ListN.{length, getD}
 use borrow.Author.Tests.{leb-true, eqb-true, not-true, not-false}
-use Rattle.entries.specs.Entries.{entryOf, offsetsFit, areFlags, sameBytes}
+use Rattle.entries.specs.Entries.{entryOf, offsetsFit, areFlags}
 use Rattle.entries.proofs.Same.{both, same-equal}
 use Rattle.tile_names.specs.Numerals.{numeralsFrom, numeralsText}
 use Rattle.tile_names.specs.Names.{Names, names, namesSized, nullName, nullFirst, namesRead, Readable}
@@ -57,6 +57,7 @@ readable {strands} n s e =
       counts = s .offset-count ∙ ap (λ k. k + 1) (sym (s .byte-count));
       few = omega arith;
       null-present = eqb-true (getD (n .present) 0 0) 1 (d .0);
+      null-name = same-equal (entryOf (n .text) (n .offsets) 0) nullName (d .1);
       numerals-right = same-equal (n .numerals) numeralsText (c .1);
     }
 

@@ -11,7 +11,7 @@ use Rattle.units.proofs.Verdicts.{no-fault, first-passes, rest-passes}
 use Rattle.tile_names.specs.declared.tiles.NumberAnswer.{NumberAnswer}
 use Rattle.tile_names.specs.declared.tiles.NumberAnswer.the-variants.{Shown, Refused}
 use Rattle.tile_names.specs.Names.{Names, names, namesSized, namesRead, namesSizes, namesReading, tileBelow, tileVerdict, numberAnswer, numberOf, Readable}
-use Rattle.tile_names.proofs.Passed.{Sized, sized, readable}
+use Rattle.tile_names.proofs.Passed.{sized, readable}
 
 module _ (strands : ℕ) (text offsets present numerals : List ℕ) (tile : ℕ) where
   pub refuses-1 : namesSized strands text offsets present ≡ false → tileVerdict strands (names text offsets present numerals) tile ≡ refuses 1 []

@@ -105,4 +105,5 @@ pub record Readable (n : Names) : Type 0 where
   pub counts : length (n .offsets) ≡ length (n .present) + 1
   pub few : length (n .present) ≤ 64
   pub null-present : getD (n .present) 0 0 ≡ 1
+  pub null-name : entryOf (n .text) (n .offsets) 0 ≡ nullName
   pub numerals-right : n .numerals ≡ numeralsText

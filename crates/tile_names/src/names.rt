@@ -107,8 +107,10 @@ pub fn shown<'a>(
 ) -> &'a [u8]
     requires { ⌜ Readable (names (now text) (now offsets) (now present) (now numerals)) ⌝ }
     requires { ⌜ tile < length (now present) ⌝ }
-    ensures bytes { λ r. ⌜ now r ≡ shownName (names (now (text .entry)) (now (offsets .entry)) (now (present .entry)) (now (numerals .entry))) tile ⌝ }
-    ensures place { λ r. ⌜ ptr r ≡ beginsAt (ptr (text .entry)) (ptr (numerals .entry)) (shownPart (names (now (text .entry)) (now (offsets .entry)) (now (present .entry)) (now (numerals .entry))) tile) ⌝ }
+    ensures bytes { λ r. let n = names (now (text .entry)) (now (offsets .entry)) (now (present .entry)) (now (numerals .entry)) in
+        ⌜ now r ≡ shownName n tile ⌝ }
+    ensures place { λ r. let n = names (now (text .entry)) (now (offsets .entry)) (now (present .entry)) (now (numerals .entry)) in
+        ⌜ ptr r ≡ beginsAt (ptr (text .entry)) (ptr (numerals .entry)) (shownPart n tile) ⌝ }
 {
     if present[tile] == 1 {
         return entry(text, offsets, tile);
@@ -127,7 +129,8 @@ pub fn shows(
 ) -> bool
     requires { ⌜ Readable (names (now text) (now offsets) (now present) (now numerals)) ⌝ }
     requires { ⌜ tile < length (now present) ⌝ }
-    ensures { λ r. ⌜ r ≡ sameBytes (shownName (names (now (text .entry)) (now (offsets .entry)) (now (present .entry)) (now (numerals .entry))) tile) (now (name .entry)) ⌝ }
+    ensures { λ r. let n = names (now (text .entry)) (now (offsets .entry)) (now (present .entry)) (now (numerals .entry)) in
+        ⌜ r ≡ sameBytes (shownName n tile) (now (name .entry)) ⌝ }
 {
     if present[tile] == 1 {
         return same_bytes(entry(text, offsets, tile), name);

@@ -22,8 +22,10 @@ pub fn tile_name_refusal(
     numerals: &[u8],
     tile: u32,
 ) -> NumberAnswer
-    ensures refusal { λ r. ⌜ numberOf r ≡ numberIn (tileVerdict strands (names (now (text .entry)) (now (offsets .entry)) (now (present .entry)) (now (numerals .entry))) tile) ⌝ }
-    ensures answer { λ r. ⌜ r ≡ numberAnswer (tileVerdict strands (names (now (text .entry)) (now (offsets .entry)) (now (present .entry)) (now (numerals .entry))) tile) ⌝ }
+    ensures refusal { λ r. let n = names (now (text .entry)) (now (offsets .entry)) (now (present .entry)) (now (numerals .entry)) in
+        ⌜ numberOf r ≡ numberIn (tileVerdict strands n tile) ⌝ }
+    ensures answer { λ r. let n = names (now (text .entry)) (now (offsets .entry)) (now (present .entry)) (now (numerals .entry)) in
+        ⌜ r ≡ numberAnswer (tileVerdict strands n tile) ⌝ }
 {
     if !names_sized(strands, text, offsets, present) {
         return NumberAnswer::Refused(1);
@@ -46,8 +48,10 @@ pub fn tile_name<'a>(
     numerals: &'a [u8],
     tile: u32,
 ) -> &'a [u8]
-    ensures answer { λ r. ⌜ now r ≡ bytesOf (names (now (text .entry)) (now (offsets .entry)) (now (present .entry)) (now (numerals .entry))) (tilePart strands (names (now (text .entry)) (now (offsets .entry)) (now (present .entry)) (now (numerals .entry))) tile) ⌝ }
-    ensures place { λ r. ⌜ ptr r ≡ beginsAt (ptr (text .entry)) (ptr (numerals .entry)) (tilePart strands (names (now (text .entry)) (now (offsets .entry)) (now (present .entry)) (now (numerals .entry))) tile) ⌝ }
+    ensures answer { λ r. let n = names (now (text .entry)) (now (offsets .entry)) (now (present .entry)) (now (numerals .entry)) in
+        ⌜ now r ≡ bytesOf n (tilePart strands n tile) ⌝ }
+    ensures place { λ r. let n = names (now (text .entry)) (now (offsets .entry)) (now (present .entry)) (now (numerals .entry)) in
+        ⌜ ptr r ≡ beginsAt (ptr (text .entry)) (ptr (numerals .entry)) (tilePart strands n tile) ⌝ }
 {
     match tile_name_refusal(strands, text, offsets, present, numerals, tile) {
         NumberAnswer::Refused(_) => &text[..0],

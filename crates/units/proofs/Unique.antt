@@ -21,6 +21,12 @@ OneTable n params result Post table =
 pub one-answer : {A : Type 0} {x r s : A} → r ≡ x → s ≡ x → r ≡ s
 one-answer e f = e ∙ sym f
 
+-- The same of what is read off a result that is a reference: its place and what it refers to, and not its ghost name, which no program sees.
+abbrev pub OneAnswerAs : (n : ℕ) (params : List (PK n)) (result : RK n) {A : Type 0} → ((κs : Lfts n) → resT result κs .Denot → A) → Out n params result → Type 0
+OneAnswerAs n params result seen Post =
+    (κs : Lfts n) (input : Dens κs params) (a b : resT result κs .Denot) (at-a at-b : AtExit (endedOf n params result) κs)
+    → Post κs input a at-a → Post κs input b at-b → seen κs a ≡ seen κs b
+
 -- Of a lent table: two exits that meet the contract on the same input hold the same there.
 abbrev pub OneExit : (n : ℕ) (params : List (PK n)) (result : RK n) {A : Type 0} → ((κs : Lfts n) → AtExit (endedOf n params result) κs → A) → Out n params result → Type 0
 OneExit n params result held Post =

@@ -5,9 +5,9 @@ use mathlib.Core.Path.{_≡_, refl, _∙_}
 use native.Mathlib.Omega.{arith}
 use lib.ListN.{length, drop}
 use borrow.Author.Needs.{scaled-fits}
-use Rattle.named_seeds.proofs.Triples.{fill-turn, filled}
-use Rattle.named_seeds.specs.Seeds.{seedList, seedCount, seedTriples}
 use Rattle.tile_names.specs.Names.{names}
+use Rattle.named_seeds.specs.Seeds.{seedList, seedCount, seedTriples}
+use Rattle.named_seeds.proofs.Triples.{fill-turn, filled}
 use Rattle.named_seeds.proofs.fill.fill_seeds.Statement.{statement}
 use Rattle.named_seeds.proofs.fill.fill_seeds.Tie as tie
 

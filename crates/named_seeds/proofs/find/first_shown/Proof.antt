@@ -4,9 +4,9 @@ use mathlib.Core.Path.{_≡_, _∙_, sym}
 use native.Mathlib.Nat.{sub-zero}
 use native.Mathlib.Omega.{arith}
 use lib.ListN.{length}
-use Rattle.named_seeds.proofs.FirstShown.{shown-here, shown-later, shown-nowhere}
-use Rattle.named_seeds.specs.Seeds.{firstShown, seedStrand}
 use Rattle.tile_names.specs.Names.{names}
+use Rattle.named_seeds.specs.Seeds.{firstShown, seedStrand}
+use Rattle.named_seeds.proofs.FirstShown.{shown-here, shown-later, shown-nowhere}
 use Rattle.named_seeds.proofs.find.first_shown.Statement.{statement}
 use Rattle.named_seeds.proofs.find.first_shown.Tie as tie
 

@@ -2,8 +2,8 @@
 use mathlib.Core.Path.{ap, _∙_}
 use denote.Ref.{now}
 use borrow.Author.Needs.{needs}
-use Rattle.named_seeds.specs.Seeds.{seedStrand}
 use Rattle.tile_names.specs.Names.{names}
+use Rattle.named_seeds.specs.Seeds.{seedStrand}
 use Rattle.named_seeds.proofs.find.seed_strand.Statement.{statement}
 use Rattle.named_seeds.proofs.find.seed_strand.Tie as tie
 

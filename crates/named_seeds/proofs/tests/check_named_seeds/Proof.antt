@@ -2,8 +2,8 @@
 use mathlib.Core.Path.{_∙_, sym, ap}
 use borrow.Author.Needs.{needs}
 use Rattle.units.specs.Refusals.{check}
-use Rattle.named_seeds.proofs.Chain.{names-there, sizes-wrong, texts-wrong, then-each, both-readable}
 use Rattle.tile_names.proofs.Passed.{fails, holds}
+use Rattle.named_seeds.proofs.Chain.{names-there, sizes-wrong, texts-wrong, then-each, both-readable}
 use Rattle.named_seeds.proofs.tests.check_named_seeds.Statement.{statement}
 use Rattle.named_seeds.proofs.tests.check_named_seeds.Tie as tie
 

@@ -1,12 +1,9 @@
 -- `named_seeds::tests::check_seed` meets its contract: each way out has the tests that led there. Assumes nothing.
 use mathlib.Core.Path.{ap, _∙_, sym}
 use native.Mathlib.Omega.{arith}
-use denote.Ref.{now}
 use borrow.Author.Needs.{needs}
 use Rattle.units.specs.Refusals.{check}
 use Rattle.named_seeds.proofs.EachSeed.{row-off, col-off, name-unknown, seed-passes}
-use Rattle.named_seeds.specs.Seeds.{seedList}
-use Rattle.tile_names.specs.Names.{names}
 use Rattle.named_seeds.proofs.tests.check_seed.Statement.{statement}
 use Rattle.named_seeds.proofs.tests.check_seed.Tie as tie
 

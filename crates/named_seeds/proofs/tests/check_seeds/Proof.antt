@@ -6,11 +6,11 @@ use native.Mathlib.Omega.{arith}
 use lib.ListN.{length}
 use denote.Ref.{now}
 use borrow.Author.Needs.{needs}
-use Rattle.units.proofs.Verdicts.{passed}
 use Rattle.units.specs.Refusals.{check}
-use Rattle.named_seeds.proofs.EachSeed.{each-more, each-refused, each-done}
-use Rattle.named_seeds.specs.Seeds.{seedList, seedCount, eachSeed}
+use Rattle.units.proofs.Verdicts.{passed}
 use Rattle.tile_names.specs.Names.{names}
+use Rattle.named_seeds.specs.Seeds.{seedList, seedCount, eachSeed}
+use Rattle.named_seeds.proofs.EachSeed.{each-more, each-refused, each-done}
 use Rattle.named_seeds.proofs.tests.check_seeds.Statement.{statement}
 use Rattle.named_seeds.proofs.tests.check_seeds.Tie as tie
 

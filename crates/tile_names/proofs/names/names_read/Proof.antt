@@ -1,7 +1,7 @@
 -- `tile_names::names::names_read` meets its contract: each way out has the tests that led there. Assumes nothing.
 use borrow.Author.Needs.{needs}
-use Rattle.tile_names.proofs.Passed.{fails, holds}
 use Rattle.tile_names.specs.Names.{namesRead}
+use Rattle.tile_names.proofs.Passed.{fails, holds}
 use Rattle.tile_names.proofs.names.names_read.Statement.{statement}
 use Rattle.tile_names.proofs.names.names_read.Tie as tie
 

@@ -1,8 +1,8 @@
 -- `tile_names::names::shown` meets its contract: the presence byte says which of the two texts has the part. Assumes nothing.
 use borrow.Author.Needs.{needs}
 use borrow.Author.Tests.{eq-eqb, ne-eqb}
-use Rattle.tile_names.proofs.Passed.{not-null, numeral-within}
 use Rattle.tile_names.specs.Names.{shownName}
+use Rattle.tile_names.proofs.Passed.{not-null, numeral-within}
 use Rattle.tile_names.proofs.names.shown.Statement.{statement}
 use Rattle.tile_names.proofs.names.shown.Tie as tie
 

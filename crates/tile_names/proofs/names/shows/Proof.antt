@@ -4,8 +4,8 @@ use denote.Ref.{now}
 use borrow.Author.Needs.{needs}
 use borrow.Author.Tests.{eq-eqb, ne-eqb}
 use Rattle.entries.specs.Entries.{sameBytes}
-use Rattle.tile_names.proofs.Passed.{not-null, numeral-within}
 use Rattle.tile_names.specs.Names.{shownName}
+use Rattle.tile_names.proofs.Passed.{not-null, numeral-within}
 use Rattle.tile_names.proofs.names.shows.Statement.{statement}
 use Rattle.tile_names.proofs.names.shows.Tie as tie
 

@@ -1,10 +1,10 @@
 -- `tile_names::tiles::tile_name` meets its contract: the part is shown where the tests pass, and is empty where they refuse. Assumes nothing.
-use mathlib.Core.Path.{refl, ap}
+use mathlib.Core.Path.{refl}
 use native.Mathlib.Nat.{zero-add}
-use borrow.Author.Needs.{needs}
-use Rattle.tile_names.proofs.Tile.{shown-passes, refused-old, tile-readable}
-use Rattle.tile_names.specs.Names.{names, tileVerdict, shownName}
 use denote.Ref.{now}
+use borrow.Author.Needs.{needs}
+use Rattle.tile_names.specs.Names.{names, tileVerdict, shownName}
+use Rattle.tile_names.proofs.Tile.{shown-passes, refused-old, tile-readable}
 use Rattle.tile_names.proofs.tiles.tile_name.Statement.{statement}
 use Rattle.tile_names.proofs.tiles.tile_name.Tie as tie
 

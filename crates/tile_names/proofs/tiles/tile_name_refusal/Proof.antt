@@ -1,10 +1,10 @@
 -- `tile_names::tiles::tile_name_refusal` meets its contract: the chain of tests is followed link by link. Assumes nothing.
+use mathlib.Core.List.{[]}
 use borrow.Author.Needs.{needs}
 use borrow.Author.Tests.{lt-ltb, le-ltb}
+use Rattle.units.specs.Refusals.{passes, refuses}
 use Rattle.tile_names.proofs.Passed.{fails, holds, sized, first-there}
 use Rattle.tile_names.proofs.Tile.{answered, refuses-1, refuses-17, refuses-6, refuses-none}
-use Rattle.units.specs.Refusals.{passes, refuses}
-use mathlib.Core.List.{[]}
 use Rattle.tile_names.proofs.tiles.tile_name_refusal.Statement.{statement}
 use Rattle.tile_names.proofs.tiles.tile_name_refusal.Tie as tie
 
