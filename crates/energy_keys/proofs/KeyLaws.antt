@@ -1,36 +1,19 @@
 -- From the tests of a list of keys to the answer of the call: each refusal has its row's values, and what the call leaves in the matrices. Assumes nothing.
-use Prim.Native.Nat.{ℕ, zero, suc}
+use Prim.Native.Nat.{ℕ}
 use mathlib.Core.Path.{_≡_, refl, sym, ap, _∙_}
-use mathlib.Core.Bool.{not, _&&_}
-use mathlib.Core.List.{List, [], _∷_}
+use mathlib.Core.Bool.{not}
+use mathlib.Core.List.{List, []}
 use lib.Ieee.{Float}
-use lib.ListN.{length}
 use borrow.Author.Tests.{not-false}
 use Rattle.units.specs.declared.Refusal.{Refusal}
 use Rattle.units.specs.declared.Check.{Check}
 use Rattle.units.specs.declared.Check.the-variants.{Passed, Refused}
-use Rattle.units.specs.Finite.{finite}
 use Rattle.units.specs.Refusals.{Verdict, passes, check, ifPasses, Prints, _▷_}
 use Rattle.units.proofs.Verdicts.{Tabled, tabled-if, tabled-then, printed, refused-keeps, no-fault, first-passes, rest-passes}
-use Rattle.utils.proofs.Refused.{sequence-tabled}
-use Rattle.entries.specs.Entries.{part}
-use Rattle.energy_keys.specs.declared.values.GsOrSeq.{GsOrSeq}
-use Rattle.energy_keys.specs.declared.values.GsOrSeq.the-variants.{Gs, Seq}
-use Rattle.energy_keys.specs.Values.{Values, valueAt, valueVerdict, keyVerdict, keysFrom, valuesVerdict}
+use Rattle.key_values.specs.Values.{Values, valuesVerdict}
+use Rattle.key_values.proofs.ValueLaws.{values-tabled}
 use Rattle.energy_keys.specs.Names.{Names}
 use Rattle.energy_keys.specs.Keys.{sizesFit, sizesVerdict, formsFit, formsVerdict, lentVerdict, keysVerdict, Lent}
-
--- every refusal has the values of its row
-value-tabled : (key : ℕ) (sequences : List ℕ) (value : GsOrSeq) → Tabled (valueVerdict key sequences value)
-value-tabled key sequences (Gs dg ds) = tabled-if (not (finite dg && finite ds)) 3 (key ∷ []) refl
-value-tabled key sequences (Seq from to) = sequence-tabled key (part sequences from to)
-
-keys-from-tabled : (v : Values) (k n : ℕ) → Tabled (keysFrom v k n)
-unfolding keysFrom
-keys-from-tabled v k zero = tt
-keys-from-tabled v k (suc n) =
-    tabled-then (keyVerdict v k) (keysFrom v (suc k) n)
-    (value-tabled k (v .sequences) (valueAt (v .kinds) (v .numbers) (v .sequenceOffsets) k)) (keys-from-tabled v (suc k) n)
 
 module _ (n : Names) (v : Values) (deltaG entropy : ℕ) where
   keys-tabled : Tabled (keysVerdict n v deltaG entropy)
@@ -38,7 +21,7 @@ module _ (n : Names) (v : Values) (deltaG entropy : ℕ) where
       tabled-then (lentVerdict n v deltaG entropy) (valuesVerdict v)
       (tabled-then (sizesVerdict n v deltaG entropy) (formsVerdict n v)
       (tabled-if (not (sizesFit n v deltaG entropy)) 1 [] refl) (tabled-if (not (formsFit n v)) 17 [] refl))
-      (keys-from-tabled v 0 (length (v .kinds)))
+      (values-tabled v)
 
   -- what is lent and passed has its sizes and forms
   pub lent-passed : lentVerdict n v deltaG entropy ≡ passes → Lent n v deltaG entropy

@@ -11,7 +11,7 @@ use borrow.Author.Tests.{leb-true, eqb-true}
 use Rattle.entries.specs.Entries.{offsetsFit, areFlags}
 use Rattle.entries.proofs.Same.{both}
 use Rattle.sdc_common.specs.Bases.{basesFit}
-use Rattle.energy_keys.specs.Values.{Values}
+use Rattle.key_values.specs.Values.{Values}
 use Rattle.energy_keys.specs.Names.{Names}
 use Rattle.energy_keys.specs.Matrices.{sideOf}
 use Rattle.energy_keys.specs.Keys.{listsFit, tablesFit, sizesFit, entriesFit, formsFit, Lent}

@@ -8,7 +8,7 @@ use lib.ListN.{length}
 use Rattle.units.specs.Refusals.{Verdict, refuseIf, _▷_}
 use Rattle.entries.specs.Entries.{offsetsFit, areFlags}
 use Rattle.sdc_common.specs.Bases.{basesFit}
-use Rattle.energy_keys.specs.Values.{Values, valuesVerdict}
+use Rattle.key_values.specs.Values.{Values, valuesVerdict}
 use Rattle.energy_keys.specs.Names.{Names}
 use Rattle.energy_keys.specs.Matrices.{sideOf}
 

@@ -1,4 +1,4 @@
-pub mod Values
 pub mod Names
 pub mod Matrices
 pub mod Keys
+pub mod Cells

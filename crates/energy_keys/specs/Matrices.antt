@@ -7,7 +7,7 @@ use Rattle.units.specs.declared.BaseEnergy.{BaseEnergy}
 use Rattle.units.specs.Decimals.{plus}
 use Rattle.energy_keys.specs.declared.names.Joined.{Joined}
 use Rattle.energy_keys.specs.declared.names.Joined.the-variants.{Glues, Nothing}
-use Rattle.energy_keys.specs.Values.{Values, keyEnergy}
+use Rattle.key_values.specs.Values.{Values, keyEnergy}
 use Rattle.energy_keys.specs.Names.{Names, keyJoined}
 
 -- a row and a column for each base, each inverse, and glue 0

@@ -36,17 +36,20 @@ namesFit offsets (Pair first second) = ltb (first + 1) offsets && ltb (second + 
 abbrev pub baseNumber : (text bases : List ℕ) → (count : ℕ) → (name : List ℕ) → ℕ
 baseNumber text bases count name = findBase text bases count (baseOf name)
 
+abbrev pub isRegistered : (text bases : List ℕ) → (count : ℕ) → (name : List ℕ) → Bool
+isRegistered text bases count name = ltb (baseNumber text bases count name) count
+
 -- a key of one name joins base and inverse, however many stars it has
 abbrev pub joinedByOne : (text bases : List ℕ) → (count : ℕ) → (name : List ℕ) → Joined
 joinedByOne text bases count name =
-    cond (ltb (baseNumber text bases count name) count)
+    cond (isRegistered text bases count name)
     (Glues (baseNumber text bases count name * 2 + 1) (baseNumber text bases count name * 2 + 2))
     Nothing
 
 -- a key of two names joins what each resolves to
 abbrev pub joinedByTwo : (text bases : List ℕ) → (count : ℕ) → (first second : List ℕ) → Joined
 joinedByTwo text bases count first second =
-    cond (ltb (baseNumber text bases count first) count && ltb (baseNumber text bases count second) count)
+    cond (isRegistered text bases count first && isRegistered text bases count second)
     (Glues (glueOf (baseNumber text bases count first) first) (glueOf (baseNumber text bases count second) second))
     Nothing
 

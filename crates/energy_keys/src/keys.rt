@@ -2,13 +2,13 @@
 ghost use mathlib.Core.Path.{_≡_};
 ghost use lib.ListN.{length};
 ghost use Rattle.units.specs.Refusals.{check, ifPasses, Prints};
-ghost use Rattle.energy_keys.specs.Values.{values};
+ghost use Rattle.key_values.specs.Values.{values};
 ghost use Rattle.energy_keys.specs.Names.{names};
 ghost use Rattle.energy_keys.specs.Matrices.{deltaG, entropy as entropyOf};
 ghost use Rattle.energy_keys.specs.Keys.{keysVerdict};
 use crate::lent::check_lent;
 use crate::matrices::set_keys;
-use crate::values::check_values;
+use key_values::check_values;
 use units::Check;
 
 // Sets both matrices to 0.0 and then, key by key, the cells of the two glues that a key joins to its energy.

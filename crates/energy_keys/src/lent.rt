@@ -4,7 +4,7 @@ ghost use Prim.Native.Nat.{_+_, _<_, _≤_, _^_};
 ghost use lib.ListN.{length};
 ghost use mathlib.Core.List.{[]};
 ghost use Rattle.units.specs.Refusals.{refuses, check};
-ghost use Rattle.energy_keys.specs.Values.{values};
+ghost use Rattle.key_values.specs.Values.{values};
 ghost use Rattle.energy_keys.specs.Names.{names};
 ghost use Rattle.energy_keys.specs.Keys.{listsFit, tablesFit, entriesFit, lentVerdict};
 use entries::are_flags;

@@ -3,6 +3,5 @@ mod keys;
 mod lent;
 mod matrices;
 mod names;
-mod values;
 
 pub use keys::energy_keys;

@@ -3,13 +3,13 @@ ghost use mathlib.Core.Path.{_≡_};
 ghost use Prim.Native.Nat.{_*_, _<_, _≤_};
 ghost use lib.ListN.{length, replicate};
 ghost use Rattle.units.specs.Decimals.{plus};
-ghost use Rattle.energy_keys.specs.Values.{values};
+ghost use Rattle.key_values.specs.Values.{values};
 ghost use Rattle.energy_keys.specs.Names.{names};
 ghost use Rattle.energy_keys.specs.Matrices.{setBoth, setJoined, InSide, deltaG, entropy as entropyOf};
 ghost use Rattle.energy_keys.specs.Keys.{Lent};
 use crate::names::Joined;
 use crate::names::key_joined;
-use crate::values::key_energy;
+use key_values::key_energy;
 use units::BaseEnergy;
 
 // 0.0 everywhere.

@@ -48,6 +48,16 @@ loops-tabled (NoLoopValue n) = refl
 pub pair-tabled : (a b : List ℕ) → Tabled (pairVerdict a b)
 pair-tabled a b = tabled-then (pairTests a b) (loopsVerdict (pairSum a b)) (tests-tabled a b) (loops-tabled (pairSum a b))
 
+-- a sequence that passed under another number passes alone
+pub single-passes : (sequence : ℕ) (dna : List ℕ) → sequenceVerdict sequence dna ≡ passes → singleVerdict dna ≡ passes
+single-passes sequence dna e =
+    let rest = rest-passes (lengthVerdict dna) (lettersVerdict sequence dna ▷ shortVerdict dna) e in
+    rw (
+      first-passes (lengthVerdict dna) (lettersVerdict sequence dna ▷ shortVerdict dna) e,
+      no-fault (ltb (firstBad dna) (length dna)) 11 _ (first-passes (lettersVerdict sequence dna) (shortVerdict dna) rest),
+      rest-passes (lettersVerdict sequence dna) (shortVerdict dna) rest,
+    )
+
 -- a sequence that passed has at most 256 letters
 not-longer : (dna : List ℕ) → lengthVerdict dna ≡ passes → length dna ≤ 256
 not-longer dna e = ltb-false 256 (length dna) (no-fault (ltb 256 (length dna)) 13 [] e)

@@ -11,7 +11,7 @@ use Rattle.energy_keys.proofs.LentLaws.{held}
 use Rattle.energy_keys.specs.Keys.{lentVerdict, keysVerdict, Lent}
 use Rattle.energy_keys.specs.Matrices.{deltaG, entropy}
 use Rattle.energy_keys.specs.Names.{Names, names}
-use Rattle.energy_keys.specs.Values.{Values, values, valuesVerdict}
+use Rattle.key_values.specs.Values.{Values, values, valuesVerdict}
 use Rattle.energy_keys.proofs.keys.energy_keys.Statement.{statement}
 use Rattle.energy_keys.proofs.keys.energy_keys.Tie as tie
 

@@ -12,7 +12,7 @@ use Rattle.energy_keys.proofs.MatrixLaws.{matrix-none, matrix-more, mat
 use Rattle.energy_keys.proofs.NameLaws.{key-in-side}
 use Rattle.energy_keys.specs.Matrices.{matrixTo}
 use Rattle.energy_keys.specs.Names.{Names, names}
-use Rattle.energy_keys.specs.Values.{Values, values}
+use Rattle.key_values.specs.Values.{Values, values}
 use Rattle.energy_keys.proofs.matrices.set_keys.Statement.{statement}
 use Rattle.energy_keys.proofs.matrices.set_keys.Tie as tie
 

@@ -1,8 +1,8 @@
--- `energy_keys::values::check_numbers` meets its contract: each way out has the tests that led there. Assumes nothing.
+-- `key_values::check_numbers` meets its contract: each way out has the tests that led there. Assumes nothing.
 use mathlib.Core.Path.{sym, _∙_}
 use borrow.Author.Needs.{needs}
-use Rattle.energy_keys.proofs.values.check_numbers.Statement.{statement}
-use Rattle.energy_keys.proofs.values.check_numbers.Tie as tie
+use Rattle.key_values.proofs.check_numbers.Statement.{statement}
+use Rattle.key_values.proofs.check_numbers.Tie as tie
 
 is-finite-requires : tie.Need-is-finite-requires
 is-finite-requires c κs = search needs

@@ -1,11 +1,11 @@
-// What a key gives: two floats, or a sequence.
+// What a key gives: two floats or a sequence.
 ghost use mathlib.Core.Path.{_≡_};
 ghost use mathlib.Core.Bool.{true};
 ghost use Prim.Native.Nat.{_+_, _<_};
 ghost use lib.ListN.{length};
 ghost use Rattle.units.specs.Refusals.{check};
 ghost use Rattle.entries.specs.Entries.{offsetsFit};
-ghost use Rattle.energy_keys.specs.Values.{values, valueAt, valueFits, numbersVerdict, valueVerdict, gsOrSeqToGs, keyVerdict, keyEnergy, valuesVerdict};
+ghost use Rattle.key_values.specs.Values.{values, valueAt, valueFits, numbersVerdict, valueVerdict, gsOrSeqToGs, keyVerdict, keyEnergy, valuesVerdict};
 use units::BaseEnergy;
 use units::Check;
 use units::Refusal;

@@ -10,8 +10,8 @@ use Rattle.units.specs.Finite.{finite}
 use Rattle.units.specs.Refusals.{Verdict, passes, refuseIf, _▷_}
 use Rattle.utils.specs.Single.{sequenceVerdict, singleEnergy}
 use Rattle.entries.specs.Entries.{part}
-use Rattle.energy_keys.specs.declared.values.GsOrSeq.{GsOrSeq}
-use Rattle.energy_keys.specs.declared.values.GsOrSeq.the-variants.{Gs, Seq}
+use Rattle.key_values.specs.declared.GsOrSeq.{GsOrSeq}
+use Rattle.key_values.specs.declared.GsOrSeq.the-variants.{Gs, Seq}
 
 -- The keys' values as they are lent: a kind for each key, two numbers for each key, and the sequences' text with its offsets.
 pub record Values : Type 0 where

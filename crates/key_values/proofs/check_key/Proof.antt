@@ -1,11 +1,11 @@
--- `energy_keys::values::check_key` meets its contract: the test of what the key gives. Assumes nothing.
+-- `key_values::check_key` meets its contract: the test of what the key gives. Assumes nothing.
 use native.Mathlib.Omega.{arith}
 use lib.ListN.{length}
 use denote.Ref.{now}
 use borrow.Author.Needs.{needs}
-use Rattle.energy_keys.proofs.ValueLaws.{value-fits}
-use Rattle.energy_keys.proofs.values.check_key.Statement.{statement}
-use Rattle.energy_keys.proofs.values.check_key.Tie as tie
+use Rattle.key_values.proofs.ValueLaws.{value-fits}
+use Rattle.key_values.proofs.check_key.Statement.{statement}
+use Rattle.key_values.proofs.check_key.Tie as tie
 
 value-at-requires : tie.Need-value-at-requires
 value-at-requires c κs = search needs

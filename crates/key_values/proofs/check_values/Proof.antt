@@ -1,4 +1,4 @@
--- `energy_keys::values::check_values` meets its contract. The invariant: the keys that are left decide. Assumes nothing.
+-- `key_values::check_values` meets its contract. The invariant: the keys that are left decide. Assumes nothing.
 use Prim.Native.Nat.{_+_, _-_, _≤_}
 use mathlib.Core.Path.{_≡_, _∙_, ap}
 use native.Mathlib.Nat.{sub-zero}
@@ -8,10 +8,10 @@ use denote.Ref.{now}
 use borrow.Author.Needs.{needs}
 use Rattle.units.proofs.Verdicts.{refused-first, passed-first}
 use Rattle.units.specs.Refusals.{check}
-use Rattle.energy_keys.proofs.ValueLaws.{key-more, keys-done}
-use Rattle.energy_keys.specs.Values.{Values, values, keyVerdict, keysFrom, valuesVerdict}
-use Rattle.energy_keys.proofs.values.check_values.Statement.{statement}
-use Rattle.energy_keys.proofs.values.check_values.Tie as tie
+use Rattle.key_values.proofs.ValueLaws.{key-more, keys-done}
+use Rattle.key_values.specs.Values.{Values, values, keyVerdict, keysFrom, valuesVerdict}
+use Rattle.key_values.proofs.check_values.Statement.{statement}
+use Rattle.key_values.proofs.check_values.Tie as tie
 
 abbrev Inv-loop : tie.InvT-loop
 Inv-loop kinds numbers sequences sequence-offsets k₀ k =

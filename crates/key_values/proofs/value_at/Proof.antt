@@ -1,8 +1,8 @@
--- `energy_keys::values::value_at` meets its contract: the kind decides. Assumes nothing.
+-- `key_values::value_at` meets its contract: the kind decides. Assumes nothing.
 use borrow.Author.Needs.{needs}
 use borrow.Author.Tests.{eq-eqb, ne-eqb}
-use Rattle.energy_keys.proofs.values.value_at.Statement.{statement}
-use Rattle.energy_keys.proofs.values.value_at.Tie as tie
+use Rattle.key_values.proofs.value_at.Statement.{statement}
+use Rattle.key_values.proofs.value_at.Tie as tie
 
 shared-slice-read-if1 : tie.Need-shared-slice-read-if1
 shared-slice-read-if1 c = search needs

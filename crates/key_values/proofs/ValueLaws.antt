@@ -1,21 +1,25 @@
--- Where the offsets of the sequences fit, each key's value lies within their text; and how the test of all keys goes on by one. Assumes nothing.
-use Prim.Native.Nat.{ℕ, suc, _+_, _-_, _≤_, _<_}
+-- Where the offsets of the sequences fit, each key's value lies within their text; how the test of all keys goes on by one; and that each refusal has
+-- the values of its row. Assumes nothing.
+use Prim.Native.Nat.{ℕ, zero, suc, _+_, _-_, _≤_, _<_}
 use mathlib.Core.Path.{_≡_, refl}
-use mathlib.Core.Bool.{Bool, true, false, cond, _&&_}
-use mathlib.Core.List.{List}
+use mathlib.Core.Bool.{Bool, true, false, cond, not, _&&_}
+use mathlib.Core.List.{List, [], _∷_}
 use native.Mathlib.Numerals.{add-one}
 use native.Mathlib.Omega.{arith}
 use lib.Dec.{eqb, leb}
 use lib.Ieee.{Float}
 use lib.ListN.{length, getD}
 use borrow.Author.Tests.{le-leb, leb-true}
+use Rattle.units.specs.Finite.{finite}
 use Rattle.units.specs.Refusals.{Verdict, passes, _▷_}
-use Rattle.entries.specs.Entries.{offsetsFit}
+use Rattle.units.proofs.Verdicts.{Tabled, tabled-if, tabled-then}
+use Rattle.utils.proofs.Refused.{sequence-tabled}
+use Rattle.entries.specs.Entries.{part, offsetsFit}
 use Rattle.entries.proofs.Bounds.{entry-starts, offset-within}
 use Rattle.entries.proofs.Same.{both}
-use Rattle.energy_keys.specs.declared.values.GsOrSeq.{GsOrSeq}
-use Rattle.energy_keys.specs.declared.values.GsOrSeq.the-variants.{Gs, Seq}
-use Rattle.energy_keys.specs.Values.{Values, valueAt, valueFits, keyVerdict, keysFrom}
+use Rattle.key_values.specs.declared.GsOrSeq.{GsOrSeq}
+use Rattle.key_values.specs.declared.GsOrSeq.the-variants.{Gs, Seq}
+use Rattle.key_values.specs.Values.{Values, valueAt, valueFits, valueVerdict, keyVerdict, keysFrom, valuesVerdict}
 
 -- a sequence that fits starts where it ends or before, and ends within its text
 pub within : (end : ℕ) {value : GsOrSeq} (from to : ℕ) → value ≡ Seq from to → valueFits end value ≡ true → (from ≤ to) × (to ≤ end)
@@ -44,3 +48,18 @@ module _ (v : Values) (k keys : ℕ) where
   keys-done h =
       let none-left : keys - k ≡ 0 = omega arith in
       rw none-left
+
+-- every refusal has the values of its row
+value-tabled : (key : ℕ) (sequences : List ℕ) (value : GsOrSeq) → Tabled (valueVerdict key sequences value)
+value-tabled key sequences (Gs dg ds) = tabled-if (not (finite dg && finite ds)) 3 (key ∷ []) refl
+value-tabled key sequences (Seq from to) = sequence-tabled key (part sequences from to)
+
+keys-from-tabled : (v : Values) (k n : ℕ) → Tabled (keysFrom v k n)
+unfolding keysFrom
+keys-from-tabled v k zero = tt
+keys-from-tabled v k (suc n) =
+    tabled-then (keyVerdict v k) (keysFrom v (suc k) n)
+    (value-tabled k (v .sequences) (valueAt (v .kinds) (v .numbers) (v .sequenceOffsets) k)) (keys-from-tabled v (suc k) n)
+
+pub values-tabled : (v : Values) → Tabled (valuesVerdict v)
+values-tabled v = keys-from-tabled v 0 (length (v .kinds))

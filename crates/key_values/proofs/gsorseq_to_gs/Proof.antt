@@ -1,8 +1,8 @@
--- `energy_keys::values::gsorseq_to_gs` meets its contract: the two floats, or the energy of the sequence. Assumes nothing.
+-- `key_values::gsorseq_to_gs` meets its contract: the two floats, or the energy of the sequence. Assumes nothing.
 use borrow.Author.Needs.{needs}
-use Rattle.energy_keys.proofs.ValueLaws.{within}
-use Rattle.energy_keys.proofs.values.gsorseq_to_gs.Statement.{statement}
-use Rattle.energy_keys.proofs.values.gsorseq_to_gs.Tie as tie
+use Rattle.key_values.proofs.ValueLaws.{within}
+use Rattle.key_values.proofs.gsorseq_to_gs.Statement.{statement}
+use Rattle.key_values.proofs.gsorseq_to_gs.Tie as tie
 
 enum-known-value : tie.Need-enum-known-value
 enum-known-value c = search needs

@@ -1,8 +1,8 @@
--- `energy_keys::values::check_value` meets its contract: the numbers or the sequence decide. Assumes nothing.
+-- `key_values::check_value` meets its contract: the numbers or the sequence decide. Assumes nothing.
 use borrow.Author.Needs.{needs}
-use Rattle.energy_keys.proofs.ValueLaws.{within}
-use Rattle.energy_keys.proofs.values.check_value.Statement.{statement}
-use Rattle.energy_keys.proofs.values.check_value.Tie as tie
+use Rattle.key_values.proofs.ValueLaws.{within}
+use Rattle.key_values.proofs.check_value.Statement.{statement}
+use Rattle.key_values.proofs.check_value.Tie as tie
 
 enum-known-value : tie.Need-enum-known-value
 enum-known-value c = search needs
