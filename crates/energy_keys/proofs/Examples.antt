@@ -1,9 +1,9 @@
 -- Four keys over two bases, computed: the definitions run, and say what document 01 says of each kind of key. Assumes nothing.
 use Prim.Native.Nat.{ℕ}
 use mathlib.Core.Path.{_≡_, refl}
-use mathlib.Core.List.{List, [], _∷_, _++_}
+use mathlib.Core.List.{List, [], _∷_}
 use lib.Ieee.{Float, nan, inf}
-use mathlib.Core.Bool.{true, false}
+use mathlib.Core.Bool.{false}
 use lib.ListN.{replicate}
 use Rattle.units.specs.Decimals.{decimal, plus, minus}
 use Rattle.units.specs.Finite.{finite}

@@ -8,7 +8,7 @@ use borrow.Author.Tests.{not-false}
 use Rattle.units.specs.declared.Refusal.{Refusal}
 use Rattle.units.specs.declared.Check.{Check}
 use Rattle.units.specs.declared.Check.the-variants.{Passed, Refused}
-use Rattle.units.specs.Refusals.{Verdict, passes, check, ifPasses, Prints, _▷_}
+use Rattle.units.specs.Refusals.{passes, check, ifPasses, Prints}
 use Rattle.units.proofs.Verdicts.{Tabled, tabled-if, tabled-then, printed, refused-keeps, no-fault, first-passes, rest-passes}
 use Rattle.key_values.specs.Values.{Values, valuesVerdict}
 use Rattle.key_values.proofs.ValueLaws.{values-tabled}

@@ -1,8 +1,7 @@
 -- What passed tests tell of the slices that are lent. Assumes nothing.
 use Prim.Native.Nat.{ℕ, _+_, _*_, _≤_}
 use mathlib.Core.Path.{_≡_}
-use mathlib.Core.Bool.{Bool, true, _&&_}
-use mathlib.Core.List.{List}
+use mathlib.Core.Bool.{true}
 use native.Mathlib.Nat.{mul-le-mul}
 use native.Mathlib.Omega.{arith}
 use lib.Dec.{eqb, leb}
@@ -14,7 +13,7 @@ use Rattle.sdc_common.specs.Bases.{basesFit}
 use Rattle.key_values.specs.Values.{Values}
 use Rattle.energy_keys.specs.Names.{Names}
 use Rattle.energy_keys.specs.Matrices.{sideOf}
-use Rattle.energy_keys.specs.Keys.{listsFit, tablesFit, sizesFit, entriesFit, formsFit, Lent}
+use Rattle.energy_keys.specs.Keys.{listsFit, tablesFit, Lent}
 
 -- the lists have their lengths
 pub record Lists (keys offsets paired numbers sequenceOffsets : ℕ) : Type 0 where

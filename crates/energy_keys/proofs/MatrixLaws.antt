@@ -1,5 +1,5 @@
 -- How the matrices are filled: 0.0 from the front, then key by key. Assumes nothing.
-use Prim.Native.Nat.{ℕ, zero, suc, _+_, _*_, _≤_, _<_}
+use Prim.Native.Nat.{ℕ, zero, suc, _+_, _*_, _<_}
 use mathlib.Core.Path.{_≡_, refl, sym, ap, _∙_}
 use mathlib.Core.List.{List, [], _∷_, _++_, append-nil}
 use native.Mathlib.Nat.{not-suc-le-zero, le-of-suc-le-suc}
@@ -14,7 +14,7 @@ use Rattle.energy_keys.specs.declared.names.Joined.{Joined}
 use Rattle.energy_keys.specs.declared.names.Joined.the-variants.{Glues, Nothing}
 use Rattle.key_values.specs.Values.{Values, keyEnergy}
 use Rattle.energy_keys.specs.Names.{Names, keyJoined}
-use Rattle.energy_keys.specs.Matrices.{sideOf, setBoth, setJoined, InSide, matrixTo}
+use Rattle.energy_keys.specs.Matrices.{sideOf, setJoined, InSide, matrixTo}
 
 -- one store more from the front
 front-suc : {A : Type 0} (n : ℕ) (x : A) (xs : List A) → n < length xs → set (replicate n x ++ drop n xs) n x ≡ replicate (suc n) x ++ drop (suc n) xs

@@ -13,9 +13,8 @@ use Rattle.sdc_common.specs.Stars.{isFrom}
 use Rattle.sdc_common.specs.Bases.{glueOf}
 use Rattle.energy_keys.specs.declared.names.RefOrPair.{RefOrPair}
 use Rattle.energy_keys.specs.declared.names.RefOrPair.the-variants.{Ref, Pair}
-use Rattle.energy_keys.specs.declared.names.Joined.{Joined}
 use Rattle.energy_keys.specs.declared.names.Joined.the-variants.{Glues, Nothing}
-use Rattle.energy_keys.specs.Names.{Names, namesAt, namesFit, baseNumber, joinedByOne, joinedByTwo, joinedBy, keyJoined}
+use Rattle.energy_keys.specs.Names.{Names, namesAt, namesFit, baseNumber, joinedBy, keyJoined}
 use Rattle.energy_keys.specs.Matrices.{sideOf, InSide}
 
 -- names that fit are entries

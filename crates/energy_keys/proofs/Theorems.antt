@@ -1,7 +1,7 @@
 -- What the definitions of the matrices come to, for a reader who asks about a cell, a key or a name. Assumes nothing.
 use Prim.Native.Nat.{ℕ, suc, _+_, _*_, _<_}
 use mathlib.Core.Path.{_≡_, refl, sym, ap, _∙_}
-use mathlib.Core.Bool.{Bool, true, false, cond, _&&_, _||_}
+use mathlib.Core.Bool.{Bool, true, false, cond, _&&_}
 use mathlib.Core.List.{List}
 use native.Mathlib.Omega.{arith}
 use lib.Dec.{eqb}
@@ -14,7 +14,6 @@ use Rattle.sdc_common.specs.Stars.{baseOf, isFrom}
 use Rattle.sdc_common.specs.Bases.{glueOf}
 use Rattle.energy_keys.specs.declared.names.RefOrPair.{RefOrPair}
 use Rattle.energy_keys.specs.declared.names.RefOrPair.the-variants.{Ref, Pair}
-use Rattle.energy_keys.specs.declared.names.Joined.{Joined}
 use Rattle.energy_keys.specs.declared.names.Joined.the-variants.{Glues, Nothing}
 use Rattle.key_values.specs.Values.{Values, keyEnergy}
 use Rattle.energy_keys.specs.Names.{Names, namesAt, isRegistered, baseNumber, joinedByOne, joinedBy, keyJoined}

@@ -37,5 +37,5 @@ matrixTo energyPart n v (suc k) = setJoined (sideOf (n .count)) (keyJoined n k) 
 abbrev pub deltaG : Names → Values → List Float
 deltaG n v = matrixTo (λ energy. energy .dg) n v (length (v .kinds))
 
-abbrev pub entropy : Names → Values → List Float
-entropy n v = matrixTo (λ energy. energy .ds) n v (length (v .kinds))
+abbrev pub deltaS : Names → Values → List Float
+deltaS n v = matrixTo (λ energy. energy .ds) n v (length (v .kinds))

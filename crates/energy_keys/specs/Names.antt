@@ -1,5 +1,5 @@
 -- The names of a key and the glues that it joins. Assumes nothing.
-use Prim.Native.Nat.{ℕ, _+_, _*_, _<_}
+use Prim.Native.Nat.{ℕ, _+_, _*_}
 use mathlib.Core.Bool.{Bool, cond, _&&_}
 use mathlib.Core.List.{List}
 use lib.Dec.{eqb, ltb}
@@ -36,6 +36,7 @@ namesFit offsets (Pair first second) = ltb (first + 1) offsets && ltb (second + 
 abbrev pub baseNumber : (text bases : List ℕ) → (count : ℕ) → (name : List ℕ) → ℕ
 baseNumber text bases count name = findBase text bases count (baseOf name)
 
+-- its base is in the list
 abbrev pub isRegistered : (text bases : List ℕ) → (count : ℕ) → (name : List ℕ) → Bool
 isRegistered text bases count name = ltb (baseNumber text bases count name) count
 

@@ -4,7 +4,7 @@ ghost use lib.ListN.{length};
 ghost use Rattle.units.specs.Refusals.{check, ifPasses, Prints};
 ghost use Rattle.key_values.specs.Values.{values};
 ghost use Rattle.energy_keys.specs.Names.{names};
-ghost use Rattle.energy_keys.specs.Matrices.{deltaG, entropy as entropyOf};
+ghost use Rattle.energy_keys.specs.Matrices.{deltaG, deltaS};
 ghost use Rattle.energy_keys.specs.Keys.{keysVerdict};
 use crate::lent::check_lent;
 use crate::matrices::set_keys;
@@ -29,7 +29,7 @@ pub fn energy_keys(
     ensures refusal { λ r. ⌜ Prints r (keysVerdict (names (now (text .entry)) (now (offsets .entry)) (now (paired .entry)) (now (bases .entry)) count) (values (now (kinds .entry)) (now (numbers .entry)) (now (sequences .entry)) (now («sequence_offsets» .entry))) (length (now («delta_g» .entry))) (length (now (entropy .entry)))) ⌝ }
     ensures answer { λ r. ⌜ r ≡ check (keysVerdict (names (now (text .entry)) (now (offsets .entry)) (now (paired .entry)) (now (bases .entry)) count) (values (now (kinds .entry)) (now (numbers .entry)) (now (sequences .entry)) (now («sequence_offsets» .entry))) (length (now («delta_g» .entry))) (length (now (entropy .entry)))) ⌝ }
     ensures energies { λ _. ⌜ now («delta_g» .exit) ≡ ifPasses (keysVerdict (names (now (text .entry)) (now (offsets .entry)) (now (paired .entry)) (now (bases .entry)) count) (values (now (kinds .entry)) (now (numbers .entry)) (now (sequences .entry)) (now («sequence_offsets» .entry))) (length (now («delta_g» .entry))) (length (now (entropy .entry)))) (deltaG (names (now (text .entry)) (now (offsets .entry)) (now (paired .entry)) (now (bases .entry)) count) (values (now (kinds .entry)) (now (numbers .entry)) (now (sequences .entry)) (now («sequence_offsets» .entry)))) (now («delta_g» .entry)) ⌝ }
-    ensures entropies { λ _. ⌜ now (entropy .exit) ≡ ifPasses (keysVerdict (names (now (text .entry)) (now (offsets .entry)) (now (paired .entry)) (now (bases .entry)) count) (values (now (kinds .entry)) (now (numbers .entry)) (now (sequences .entry)) (now («sequence_offsets» .entry))) (length (now («delta_g» .entry))) (length (now (entropy .entry)))) (entropyOf (names (now (text .entry)) (now (offsets .entry)) (now (paired .entry)) (now (bases .entry)) count) (values (now (kinds .entry)) (now (numbers .entry)) (now (sequences .entry)) (now («sequence_offsets» .entry)))) (now (entropy .entry)) ⌝ }
+    ensures entropies { λ _. ⌜ now (entropy .exit) ≡ ifPasses (keysVerdict (names (now (text .entry)) (now (offsets .entry)) (now (paired .entry)) (now (bases .entry)) count) (values (now (kinds .entry)) (now (numbers .entry)) (now (sequences .entry)) (now («sequence_offsets» .entry))) (length (now («delta_g» .entry))) (length (now (entropy .entry)))) (deltaS (names (now (text .entry)) (now (offsets .entry)) (now (paired .entry)) (now (bases .entry)) count) (values (now (kinds .entry)) (now (numbers .entry)) (now (sequences .entry)) (now («sequence_offsets» .entry)))) (now (entropy .entry)) ⌝ }
 {
     match check_lent(
         text,

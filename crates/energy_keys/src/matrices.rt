@@ -1,11 +1,11 @@
 // The two energy matrices, each with a row and a column for each glue, row by row.
 ghost use mathlib.Core.Path.{_≡_};
-ghost use Prim.Native.Nat.{_*_, _<_, _≤_};
+ghost use Prim.Native.Nat.{_*_, _<_};
 ghost use lib.ListN.{length, replicate};
 ghost use Rattle.units.specs.Decimals.{plus};
 ghost use Rattle.key_values.specs.Values.{values};
 ghost use Rattle.energy_keys.specs.Names.{names};
-ghost use Rattle.energy_keys.specs.Matrices.{setBoth, setJoined, InSide, deltaG, entropy as entropyOf};
+ghost use Rattle.energy_keys.specs.Matrices.{setBoth, setJoined, InSide, deltaG, deltaS};
 ghost use Rattle.energy_keys.specs.Keys.{Lent};
 use crate::names::Joined;
 use crate::names::key_joined;
@@ -71,7 +71,7 @@ pub fn set_keys(
 )
     requires { ⌜ Lent (names (now text) (now offsets) (now paired) (now bases) count) (values (now kinds) (now numbers) (now sequences) (now «sequence_offsets»)) (length (now «delta_g»)) (length (now entropy)) ⌝ }
     ensures { λ _. ⌜ now («delta_g» .exit) ≡ deltaG (names (now (text .entry)) (now (offsets .entry)) (now (paired .entry)) (now (bases .entry)) count) (values (now (kinds .entry)) (now (numbers .entry)) (now (sequences .entry)) (now («sequence_offsets» .entry))) ⌝ }
-    ensures { λ _. ⌜ now (entropy .exit) ≡ entropyOf (names (now (text .entry)) (now (offsets .entry)) (now (paired .entry)) (now (bases .entry)) count) (values (now (kinds .entry)) (now (numbers .entry)) (now (sequences .entry)) (now («sequence_offsets» .entry))) ⌝ }
+    ensures { λ _. ⌜ now (entropy .exit) ≡ deltaS (names (now (text .entry)) (now (offsets .entry)) (now (paired .entry)) (now (bases .entry)) count) (values (now (kinds .entry)) (now (numbers .entry)) (now (sequences .entry)) (now («sequence_offsets» .entry))) ⌝ }
 {
     clear(delta_g);
     clear(entropy);

@@ -11,7 +11,7 @@ use lib.Ieee.{Float}
 use lib.ListN.{length, getD}
 use borrow.Author.Tests.{le-leb, leb-true}
 use Rattle.units.specs.Finite.{finite}
-use Rattle.units.specs.Refusals.{Verdict, passes, _▷_}
+use Rattle.units.specs.Refusals.{passes, _▷_}
 use Rattle.units.proofs.Verdicts.{Tabled, tabled-if, tabled-then}
 use Rattle.utils.proofs.Refused.{sequence-tabled}
 use Rattle.entries.specs.Entries.{part, offsetsFit}

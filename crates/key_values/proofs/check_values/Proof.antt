@@ -1,13 +1,12 @@
 -- `key_values::check_values` meets its contract. The invariant: the keys that are left decide. Assumes nothing.
 use Prim.Native.Nat.{_+_, _-_, _≤_}
-use mathlib.Core.Path.{_≡_, _∙_, ap}
+use mathlib.Core.Path.{_≡_, _∙_}
 use native.Mathlib.Nat.{sub-zero}
 use native.Mathlib.Omega.{arith}
 use lib.ListN.{length}
 use denote.Ref.{now}
 use borrow.Author.Needs.{needs}
 use Rattle.units.proofs.Verdicts.{refused-first, passed-first}
-use Rattle.units.specs.Refusals.{check}
 use Rattle.key_values.proofs.ValueLaws.{key-more, keys-done}
 use Rattle.key_values.specs.Values.{Values, values, keyVerdict, keysFrom, valuesVerdict}
 use Rattle.key_values.proofs.check_values.Statement.{statement}

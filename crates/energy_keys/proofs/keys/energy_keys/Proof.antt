@@ -5,41 +5,43 @@ use lib.ListN.{length}
 use denote.Ref.{now}
 use borrow.Author.Needs.{needs}
 use Rattle.units.proofs.Verdicts.{refused-first, passed, passed-first}
-use Rattle.units.specs.Refusals.{Verdict, passes, check}
+use Rattle.units.specs.Refusals.{Verdict, check}
 use Rattle.energy_keys.proofs.KeyLaws.{lent-passed, refused-answered, passed-answered}
 use Rattle.energy_keys.proofs.LentLaws.{held}
 use Rattle.energy_keys.specs.Keys.{lentVerdict, keysVerdict, Lent}
-use Rattle.energy_keys.specs.Matrices.{deltaG, entropy}
 use Rattle.energy_keys.specs.Names.{Names, names}
 use Rattle.key_values.specs.Values.{Values, values, valuesVerdict}
 use Rattle.energy_keys.proofs.keys.energy_keys.Statement.{statement}
 use Rattle.energy_keys.proofs.keys.energy_keys.Tie as tie
 
--- what is lent
+-- the function's entry, and what is lent there
+abbrev entered : tie.After-slice-known2 → tie.Start
+entered c = c .before .before .before .before .before .before .before .before .before .before
+
 abbrev named : tie.Start → Names
 named c = names (now (c .args .text)) (now (c .args .offsets)) (now (c .args .paired)) (now (c .args .bases)) (c .args .count)
 
 abbrev valued : tie.Start → Values
 valued c = values (now (c .args .kinds)) (now (c .args .numbers)) (now (c .args .sequences)) (now (c .args .sequence-offsets))
 
-abbrev cells : tie.Start → ℕ
-cells c = length (now (c .args .delta-g))
+abbrev delta-g-length : tie.Start → ℕ
+delta-g-length c = length (now (c .args .delta-g))
 
-abbrev cells' : tie.Start → ℕ
-cells' c = length (now (c .args .entropy))
+abbrev entropy-length : tie.Start → ℕ
+entropy-length c = length (now (c .args .entropy))
 
 abbrev first-link : tie.Start → Verdict
-first-link c = lentVerdict (named c) (valued c) (cells c) (cells' c)
+first-link c = lentVerdict (named c) (valued c) (delta-g-length c) (entropy-length c)
 
 -- past the first link
-tested : (c : tie.After-enum-told) → let start = c .before .before .before .before .before .before .before .before .before .before .before .before .before in Lent (named start) (valued start) (cells start) (cells' start)
+tested : (c : tie.After-enum-told) → let start = entered (c .before .before .before) in Lent (named start) (valued start) (delta-g-length start) (entropy-length start)
 tested c =
-    let start = c .before .before .before .before .before .before .before .before .before .before .before .before .before in
-    lent-passed (named start) (valued start) (cells start) (cells' start) (passed (first-link start) (c .before .before .check-lent .ensures) (c .enum-told .given .1))
+    let start = entered (c .before .before .before) in
+    lent-passed (named start) (valued start) (delta-g-length start) (entropy-length start) (passed (first-link start) (c .before .before .check-lent .ensures) (c .enum-told .given .1))
 
-one-passed : (c : tie.After-enum-told) → let start = c .before .before .before .before .before .before .before .before .before .before .before .before .before in keysVerdict (named start) (valued start) (cells start) (cells' start) ≡ valuesVerdict (valued start)
+one-passed : (c : tie.After-enum-told) → let start = entered (c .before .before .before) in keysVerdict (named start) (valued start) (delta-g-length start) (entropy-length start) ≡ valuesVerdict (valued start)
 one-passed c =
-    let start = c .before .before .before .before .before .before .before .before .before .before .before .before .before in
+    let start = entered (c .before .before .before) in
     passed-first (first-link start) (valuesVerdict (valued start)) (c .before .before .check-lent .ensures) (c .enum-told .given .1)
 
 check-lent-requires : tie.Need-check-lent-requires
@@ -50,8 +52,8 @@ enum-known-r c = search needs
 
 returns : tie.Need-returns
 returns c =
-    let start = c .before .before .before .before .before .before .before .before .before .before .before .before .before .before in
-    refused-answered (named start) (valued start) (cells start) (cells' start) _ _ _ _
+    let start = entered (c .before .before .before .before) in
+    refused-answered (named start) (valued start) (delta-g-length start) (entropy-length start) _ _ _ _
     (refused-first (first-link start) (valuesVerdict (valued start)) (c .before .before .before .check-lent .ensures) (c .before .r .given .1))
 
 enum-told : tie.Need-enum-told
@@ -59,8 +61,8 @@ enum-told c = search needs
 
 check-values-requires : tie.Need-check-values-requires
 check-values-requires c κs =
-    let start = c .before .before .before .before .before .before .before .before .before .before .before .before .before in
-    let h = held (named start) (valued start) (cells start) (cells' start) (tested c) in
+    let start = entered (c .before .before .before) in
+    let h = held (named start) (valued start) (delta-g-length start) (entropy-length start) (tested c) in
     (h .lists .two-numbers, (h .lists .one-sequence, h .sequences-within))
 
 enum-known-r-2 : tie.Need-enum-known-r-2
@@ -68,8 +70,8 @@ enum-known-r-2 c = search needs
 
 returns-2 : tie.Need-returns-2
 returns-2 c =
-    let start = c .before .before .before .before .before .before .before .before .before .before .before .before .before .before .before .before .before in
-    refused-answered (named start) (valued start) (cells start) (cells' start) _ _ _ _
+    let start = entered (c .before .before .before .before .before .before .before) in
+    refused-answered (named start) (valued start) (delta-g-length start) (entropy-length start) _ _ _ _
     (sym (c .before .r2 .given .1) ∙ c .before .before .before .check-values .ensures ∙ ap check (sym (one-passed (c .before .before .before .before))))
 
 enum-told-2 : tie.Need-enum-told-2
@@ -86,9 +88,12 @@ same-length-2 c = search needs
 
 returns-3 : tie.Need-returns-3
 returns-3 c =
-    let start = c .before .before .before .before .before .before .before .before .before .before .before .before .before .before .before .before .before .before .before .before .before .before .before in
-    let all = one-passed (c .before .before .before .before .before .before .before .before .before .before) ∙ passed (valuesVerdict (valued start)) (c .before .before .before .before .before .before .before .before .before .check-values .ensures) (c .before .before .before .before .before .before .before .enum-told2 .given .1) in
-    passed-answered (named start) (valued start) (cells start) (cells' start) _ _ _ _ _ _ all (c .before .before .before .before .set-keys .ensures .0) (c .before .before .before .before .set-keys .ensures .1)
+    let filled = c .before .before .before .before in
+    let second = filled .before .before .before in
+    let first = second .before .before .before in
+    let start = entered (first .before .before .before) in
+    let all = one-passed first ∙ passed (valuesVerdict (valued start)) (second .before .before .check-values .ensures) (second .enum-told2 .given .1) in
+    passed-answered (named start) (valued start) (delta-g-length start) (entropy-length start) _ _ _ _ _ _ all (filled .set-keys .ensures .0) (filled .set-keys .ensures .1)
 
 pub energy-keys-spec : {M : Type 1} → statement M
 energy-keys-spec =

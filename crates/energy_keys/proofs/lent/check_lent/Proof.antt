@@ -1,5 +1,5 @@
 -- `energy_keys::lent::check_lent` meets its contract: the tests in their order. Assumes nothing.
-use mathlib.Core.Path.{_≡_, sym, _∙_}
+use mathlib.Core.Path.{sym, _∙_}
 use borrow.Author.Needs.{needs}
 use borrow.Author.Tests.{not-true, not-false}
 use Rattle.energy_keys.proofs.LentLaws.{bases-enough}

@@ -1,10 +1,10 @@
 -- `energy_keys::matrices::clear` meets its contract. The invariant: 0.0 up to i, and the rest as it was. Assumes nothing.
-use Prim.Native.Nat.{_+_, _-_, _≤_}
+use Prim.Native.Nat.{_-_, _≤_}
 use mathlib.Core.List.{_++_}
-use mathlib.Core.Path.{_≡_, _∙_, ap, refl}
+use mathlib.Core.Path.{_≡_, refl}
 use native.Mathlib.Omega.{arith}
 use lib.Ieee.{ofBits}
-use lib.ListN.{length, set, drop, replicate, length-set, drop-of-length-le}
+use lib.ListN.{length, drop, replicate, length-set}
 use denote.Ref.{now}
 use borrow.Author.Needs.{scaled-fits}
 use Rattle.units.specs.Decimals.{decimal, plus}

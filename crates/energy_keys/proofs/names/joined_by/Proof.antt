@@ -1,5 +1,4 @@
 -- `energy_keys::names::joined_by` meets its contract: each name is an entry of the text. Assumes nothing.
-use mathlib.Core.Path.{_∙_}
 use borrow.Author.Needs.{needs}
 use Rattle.energy_keys.proofs.NameLaws.{one-within, two-within}
 use Rattle.energy_keys.proofs.names.joined_by.Statement.{statement}
