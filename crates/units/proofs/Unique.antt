@@ -12,12 +12,6 @@ OneAnswer n params result Post =
     (κs : Lfts n) (input : Dens κs params) (a b : resT result κs .Denot) (at-a at-b : AtExit (endedOf n params result) κs)
     → Post κs input a at-a → Post κs input b at-b → a ≡ b
 
--- Of a function that is lent tables: what stands in a table at two exits that meet its contract on the same input is the same. `table` reads it off an exit.
-abbrev pub OneTable : (n : ℕ) (params : List (PK n)) (result : RK n) → Out n params result → ((κs : Lfts n) → AtExit (endedOf n params result) κs → List ℕ) → Type 0
-OneTable n params result Post table =
-    (κs : Lfts n) (input : Dens κs params) (a b : resT result κs .Denot) (at-a at-b : AtExit (endedOf n params result) κs)
-    → Post κs input a at-a → Post κs input b at-b → table κs at-a ≡ table κs at-b
-
 pub one-answer : {A : Type 0} {x r s : A} → r ≡ x → s ≡ x → r ≡ s
 one-answer e f = e ∙ sym f
 
