@@ -1,6 +1,7 @@
 -- The Rust's values beside the paper's: where they agree, and that a step is its own reverse complement. Assumes nothing.
+use Prim.Native.Nat.{_+_}
 use mathlib.Core.Path.{_≡_, refl}
-use mathlib.Core.Bool.{not}
+use mathlib.Core.Bool.{not, cond}
 use lib.Dec.{eqb}
 use lib.Ieee.{neg}
 use Rattle.units.specs.Decimals.{decimal}
@@ -14,6 +15,13 @@ pub entropies-agree : (a b : DnaNucleotideBase) → eqb (stepOf a b .published) 
 unfolding stepOf
 entropies-agree =
     each-step (λ a b. eqb (stepOf a b .published) (stepOf a b .ported) ≡ not (recorded a b))
+    refl refl refl refl refl refl refl refl refl refl refl refl refl refl refl refl
+
+-- at each of those the Rust's ΔS is 0.0009 further from zero
+pub recorded-differ-by-nine : (a b : DnaNucleotideBase) → stepOf a b .ported ≡ stepOf a b .published + cond (recorded a b) 9 0
+unfolding stepOf
+recorded-differ-by-nine =
+    each-step (λ a b. stepOf a b .ported ≡ stepOf a b .published + cond (recorded a b) 9 0)
     refl refl refl refl refl refl refl refl refl refl refl refl refl refl refl refl
 
 -- the start term's ΔG is as published, and its ΔS has the other sign
