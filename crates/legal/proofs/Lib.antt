@@ -1,6 +1,4 @@
-pub mod SeedOf
-pub mod SeedBelow
-pub mod Naming
-pub mod Below
-pub mod BaseSet
-pub mod Restricting
+pub mod Fronts
+pub mod Scanned
+pub mod Emptiness
+pub mod Answered

@@ -1,3 +1,2 @@
 pub mod Scan
-pub mod Legal
-pub mod Readable
+pub mod Sets

@@ -1,6 +1,6 @@
--- The order in which bays are scanned: by rows if columns ≤ rows, else by columns. Assumes nothing.
+-- The order in which bays are scanned: major lines are rows if columns ≤ rows, else columns. Assumes nothing.
 use Prim.Native.Nat.{ℕ, _+_, _*_, _/_, _%_}
-use mathlib.Core.Bool.{Bool, cond}
+use mathlib.Core.Bool.{cond}
 use lib.Dec.{leb}
 
 -- the bay, by its row-by-row number, that is scanned as number k

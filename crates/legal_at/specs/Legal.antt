@@ -1,0 +1,60 @@
+-- The legal strands of a bay, in document 01's words. Assumes nothing.
+use Prim.Native.Nat.{ℕ, _+_, _*_}
+use mathlib.Core.Bool.{Bool, cond, _&&_, _||_}
+use mathlib.Core.List.{List, [], _∷_}
+use lib.Dec.{eqb, ltb}
+use lib.Ieee.{Float, ne}
+use Rattle.units.specs.declared.BaseEnergy.{BaseEnergy}
+use Rattle.units.specs.Decimals.{plus}
+use Rattle.sets.specs.Set.{word}
+use Rattle.bonds.specs.Bonds.{cellOf, gluesOf, bottom, scaffoldGlue}
+use Rattle.sdc2d.specs.declared.sizes.Sizes.{Sizes}
+use Rattle.sdc2d.specs.System.{System}
+use Rattle.legal_at.specs.declared.seeds.Seed.{Seed}
+use Rattle.legal_at.specs.declared.seeds.Seed.the-variants.{Unseeded, Seeded}
+use Rattle.legal_at.specs.Lists.{Constraints, listOf, listAllows}
+
+-- a later seed on the same bay replaces an earlier one
+abbrev pub later : (new old : Seed) → Seed
+later Unseeded old = old
+later (Seeded strand) old = Seeded strand
+
+-- the seed of a bay
+unfoldable pub seedAt : (cols : ℕ) → (seeds : List ℕ) → (bay : ℕ) → Seed
+seedAt cols [] bay = Unseeded
+seedAt cols (row ∷ []) bay = Unseeded
+seedAt cols (row ∷ col ∷ []) bay = Unseeded
+seedAt cols (row ∷ col ∷ strand ∷ seeds) bay = later (seedAt cols seeds bay) (cond (eqb (row * cols + col) bay) (Seeded strand) Unseeded)
+
+-- a cell has a ΔG or a ΔS different from zero; minus zero is zero
+abbrev pub isBond : BaseEnergy → Bool
+isBond energy = ne (energy .dg) (plus 0 1) || ne (energy .ds) (plus 0 1)
+
+-- a strand's bottom glue binds a glue
+abbrev pub binds : (strandGlues : List ℕ) → (deltaG entropy : List Float) → (glues glue strand : ℕ) → Bool
+binds strandGlues deltaG entropy glues glue strand = isBond (cellOf deltaG entropy glues glue (bottom (gluesOf strandGlues strand)))
+
+-- a strand that may lie on an unseeded bay with this glue: 0, and each strand that binds it
+abbrev pub mayLie : (strandGlues : List ℕ) → (deltaG entropy : List Float) → (glues glue strand : ℕ) → Bool
+mayLie strandGlues deltaG entropy glues glue strand = eqb strand 0 || binds strandGlues deltaG entropy glues glue strand
+
+-- a strand that a bay permits without constraints: the seed alone, else what may lie on its glue
+abbrev pub permits : Sizes → (strandGlues scaffold : List ℕ) → (deltaG entropy : List Float) → (bay : ℕ) → Seed → (strand : ℕ) → Bool
+permits z strandGlues scaffold deltaG entropy bay (Seeded seed) strand = eqb strand seed
+permits z strandGlues scaffold deltaG entropy bay Unseeded strand = mayLie strandGlues deltaG entropy (z .glues) (scaffoldGlue scaffold bay) strand
+
+abbrev pub permitted : Sizes → (strandGlues scaffold : List ℕ) → (deltaG entropy : List Float) → (seeds : List ℕ) → (bay strand : ℕ) → Bool
+permitted z strandGlues scaffold deltaG entropy seeds bay strand =
+    ltb strand (z .strands) && permits z strandGlues scaffold deltaG entropy bay (seedAt (z .cols) seeds bay) strand
+
+-- a strand is legal at a bay: the bay permits it and its list allows it
+abbrev pub legalAt : Sizes → (strandGlues scaffold : List ℕ) → (deltaG entropy : List Float) → (seeds : List ℕ) → Constraints → (bay strand : ℕ) → Bool
+legalAt z strandGlues scaffold deltaG entropy seeds c bay strand =
+    permitted z strandGlues scaffold deltaG entropy seeds bay strand && listAllows (listOf c bay) strand
+
+abbrev pub isLegal : System → Constraints → (bay strand : ℕ) → Bool
+isLegal s c bay strand = legalAt (s .sizes) (s .strandGlues) (s .scaffold) (s .deltaG) (s .entropy) (s .seeds) c bay strand
+
+-- the legal strands of a bay as one word
+abbrev pub setAt : System → Constraints → (bay : ℕ) → ℕ
+setAt s c bay = word (isLegal s c bay) 64

@@ -1,0 +1,6 @@
+// The legal strands of one bay, as a set.
+mod lists;
+mod seeds;
+mod sets_at;
+
+pub use sets_at::constrained_allowed_tiles_at;
