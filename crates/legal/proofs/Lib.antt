@@ -2,3 +2,5 @@ pub mod Fronts
 pub mod Scanned
 pub mod Emptiness
 pub mod Answered
+pub mod Seven
+pub mod Unique

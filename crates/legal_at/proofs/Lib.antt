@@ -5,3 +5,4 @@ pub mod Below
 pub mod BaseSet
 pub mod Restricting
 pub mod Sound
+pub mod ChemistsQuestion
