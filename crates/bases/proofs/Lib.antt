@@ -2,3 +2,4 @@ pub mod Tests
 pub mod Tables
 pub mod TabledLengths
 pub mod Published
+pub mod Limits

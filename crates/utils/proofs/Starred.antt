@@ -8,7 +8,7 @@ use Rattle.bases.specs.Letters.{baseOf, isLetter}
 use Rattle.bases.specs.Steps.{noEnergy, stepOf, dgDs}
 use Rattle.bases.specs.Mismatches.{calcPenalty, penaltyTable}
 use Rattle.bases.specs.Loops.{loopPenalty, upTo, lengths, loopTable}
-use Rattle.utils.specs.Pair.{windowsSum}
+use Rattle.sequence_pairs.specs.Pair.{windowsSum}
 use Rattle.utils.specs.Hundredths.{stepsHundredths, endTerm}
 use Rattle.utils.specs.Starred.{Outcome, Case, starred}
 

@@ -6,8 +6,6 @@ use Rattle.utils.proofs.single.string_dna_delta_g.Kinds as delta-g-kind
 use Rattle.utils.proofs.single.string_dna_delta_g.Reads as delta-g
 use Rattle.utils.proofs.hundredths.string_dna_hundredths.Kinds as hundredths-kinds
 use Rattle.utils.proofs.hundredths.string_dna_hundredths.Reads as hundredths
-use Rattle.utils.proofs.pair.sequence_pair_str_dg_ds.Kinds as pair-kinds
-use Rattle.utils.proofs.pair.sequence_pair_str_dg_ds.Reads as pair
 
 pub string-dna-dg-ds : OneAnswer 1 dg-ds-kinds.ps dg-ds-kinds.r dg-ds.Post
 string-dna-dg-ds κs input a b at-a at-b p q = one-answer (p .1) (q .1)
@@ -17,6 +15,3 @@ string-dna-delta-g κs input a b at-a at-b p q = one-answer (p .1) (q .1)
 
 pub string-dna-hundredths : OneAnswer 1 hundredths-kinds.ps hundredths-kinds.r hundredths.Post
 string-dna-hundredths κs input a b at-a at-b p q = one-answer (p .1) (q .1)
-
-pub sequence-pair-str-dg-ds : OneAnswer 2 pair-kinds.ps pair-kinds.r pair.Post
-sequence-pair-str-dg-ds κs input a b at-a at-b p q = one-answer (p .1) (q .1)

@@ -1,4 +1,3 @@
 pub mod Single
-pub mod Pair
 pub mod Hundredths
 pub mod Starred

@@ -13,7 +13,7 @@ use Rattle.bases.specs.Letters.{baseAt}
 use Rattle.bases.specs.Steps.{noEnergy}
 use Rattle.bases.specs.Mismatches.{singleMismatchPenalty}
 use Rattle.utils.specs.Hundredths.{stringDnaHundredths}
-use Rattle.utils.specs.Pair.{sequencePairDgDs}
+use Rattle.sequence_pairs.specs.Pair.{sequencePairDgDs}
 
 -- what a case is about
 pub data Outcome : Type 0 where

@@ -1,10 +1,9 @@
 // The energies of sequences: one strand with its perfect fit, or two strands written letter over letter.
 mod hundredths;
-mod pair;
 mod single;
 
 pub use hundredths::string_dna_hundredths;
-pub use pair::sequence_pair_str_dg_ds;
+pub use sequence_pairs::sequence_pair_str_dg_ds;
 pub use single::check_single;
 pub use single::single_energy;
 pub use single::string_dna_delta_g;

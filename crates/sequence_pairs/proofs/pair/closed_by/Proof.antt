@@ -1,10 +1,10 @@
--- `utils::pair::closed_by` meets its contract, by what the loop adds. Assumes nothing.
+-- `sequence_pairs::pair::closed_by` meets its contract, by what the loop adds. Assumes nothing.
 use mathlib.Core.Path.{sym, _∙_, ap}
 use borrow.Author.Needs.{needs}
-use Rattle.utils.specs.declared.pair.PairSum.the-variants.{Going}
-use Rattle.utils.specs.declared.pair.PairSum.{PairSum}
-use Rattle.utils.proofs.pair.closed_by.Statement.{statement}
-use Rattle.utils.proofs.pair.closed_by.Tie as tie
+use Rattle.sequence_pairs.specs.declared.pair.PairSum.the-variants.{Going}
+use Rattle.sequence_pairs.specs.declared.pair.PairSum.{PairSum}
+use Rattle.sequence_pairs.proofs.pair.closed_by.Statement.{statement}
+use Rattle.sequence_pairs.proofs.pair.closed_by.Tie as tie
 
 loop-penalty-requires : tie.Need-loop-penalty-requires
 loop-penalty-requires c κs = search needs

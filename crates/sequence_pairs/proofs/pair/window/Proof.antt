@@ -1,8 +1,8 @@
--- `utils::pair::window` meets its contract, by whether the window matches. Assumes nothing.
+-- `sequence_pairs::pair::window` meets its contract, by whether the window matches. Assumes nothing.
 use mathlib.Core.Path.{sym, _∙_}
 use borrow.Author.Needs.{needs}
-use Rattle.utils.proofs.pair.window.Statement.{statement}
-use Rattle.utils.proofs.pair.window.Tie as tie
+use Rattle.sequence_pairs.proofs.pair.window.Statement.{statement}
+use Rattle.sequence_pairs.proofs.pair.window.Tie as tie
 
 both-match-requires : tie.Need-both-match-requires
 both-match-requires c κs = search needs

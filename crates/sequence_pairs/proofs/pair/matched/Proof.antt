@@ -1,9 +1,9 @@
--- `utils::pair::matched` meets its contract. Assumes nothing.
+-- `sequence_pairs::pair::matched` meets its contract. Assumes nothing.
 use mathlib.Core.Path.{_∙_, ap}
 use borrow.Author.Needs.{needs}
 use borrow.Author.Tests.{lt-ltb, le-ltb}
-use Rattle.utils.proofs.pair.matched.Statement.{statement}
-use Rattle.utils.proofs.pair.matched.Tie as tie
+use Rattle.sequence_pairs.proofs.pair.matched.Statement.{statement}
+use Rattle.sequence_pairs.proofs.pair.matched.Tie as tie
 
 dg-ds-requires : tie.Need-dg-ds-requires
 dg-ds-requires c κs = search needs

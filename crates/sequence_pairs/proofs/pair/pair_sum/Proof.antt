@@ -1,15 +1,15 @@
--- `utils::pair::pair_sum` meets its contract. The invariant: the sum is that of the first i windows. Assumes nothing.
+-- `sequence_pairs::pair::pair_sum` meets its contract. The invariant: the sum is that of the first i windows. Assumes nothing.
 use Prim.Native.Nat.{_+_, _-_, _≤_, _<_}
 use mathlib.Core.Path.{_≡_, _∙_, sym, ap}
 use native.Mathlib.Omega.{arith}
 use lib.ListN.{length}
 use denote.Ref.{now}
 use borrow.Author.Needs.{needs}
-use Rattle.utils.proofs.Sums.{windows-more, bad-at-most}
-use Rattle.utils.specs.Pair.{badIn, windowsSum}
-use Rattle.utils.specs.declared.pair.PairSum.the-variants.{Going}
-use Rattle.utils.proofs.pair.pair_sum.Statement.{statement}
-use Rattle.utils.proofs.pair.pair_sum.Tie as tie
+use Rattle.sequence_pairs.proofs.Windows.{windows-more, bad-at-most}
+use Rattle.sequence_pairs.specs.Pair.{badIn, windowsSum}
+use Rattle.sequence_pairs.specs.declared.pair.PairSum.the-variants.{Going}
+use Rattle.sequence_pairs.proofs.pair.pair_sum.Statement.{statement}
+use Rattle.sequence_pairs.proofs.pair.pair_sum.Tie as tie
 
 abbrev Inv-loop : tie.InvT-loop
 Inv-loop a b sum₀ i₀ sum i = (i ≤ length a - 1) × (sum ≡ windowsSum a b i)

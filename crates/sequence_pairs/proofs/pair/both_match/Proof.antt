@@ -1,8 +1,8 @@
--- `utils::pair::both_match` meets its contract. Assumes nothing.
+-- `sequence_pairs::pair::both_match` meets its contract. Assumes nothing.
 use mathlib.Core.Path.{sym, _∙_}
 use borrow.Author.Needs.{needs}
-use Rattle.utils.proofs.pair.both_match.Statement.{statement}
-use Rattle.utils.proofs.pair.both_match.Tie as tie
+use Rattle.sequence_pairs.proofs.pair.both_match.Statement.{statement}
+use Rattle.sequence_pairs.proofs.pair.both_match.Tie as tie
 
 good-match-requires : tie.Need-good-match-requires
 good-match-requires c κs = search needs

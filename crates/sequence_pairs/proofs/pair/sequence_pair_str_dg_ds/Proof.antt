@@ -1,4 +1,4 @@
--- `utils::pair::sequence_pair_str_dg_ds` meets its contract: the tests refuse, or the value is answered. Assumes nothing.
+-- `sequence_pairs::pair::sequence_pair_str_dg_ds` meets its contract: the tests refuse, or the value is answered. Assumes nothing.
 use mathlib.Core.Path.{_≡_, refl, _∙_, ap, sym}
 use denote.Ref.{now}
 use borrow.Author.Needs.{needs}
@@ -6,10 +6,10 @@ use Rattle.units.proofs.Answers.{base-energy, refused, given}
 use Rattle.units.proofs.Verdicts.{passed, refused-first}
 use Rattle.units.specs.Answers.{baseEnergyAnswer}
 use Rattle.units.specs.Refusals.{passes}
-use Rattle.utils.proofs.Refused.{pair-tabled, pair-short, pair-equal}
-use Rattle.utils.specs.Pair.{pairTests, pairVerdict, pairSum, loopsVerdict, energyIn}
-use Rattle.utils.proofs.pair.sequence_pair_str_dg_ds.Statement.{statement}
-use Rattle.utils.proofs.pair.sequence_pair_str_dg_ds.Tie as tie
+use Rattle.sequence_pairs.proofs.Refused.{pair-tabled, pair-short, pair-equal}
+use Rattle.sequence_pairs.specs.Pair.{pairTests, pairVerdict, pairSum, loopsVerdict, energyIn}
+use Rattle.sequence_pairs.proofs.pair.sequence_pair_str_dg_ds.Statement.{statement}
+use Rattle.sequence_pairs.proofs.pair.sequence_pair_str_dg_ds.Tie as tie
 
 check-pair-requires : tie.Need-check-pair-requires
 check-pair-requires c κs = search needs

@@ -5,7 +5,7 @@ ghost use Rattle.bases.specs.Loops.{loopPenalty};
 ghost use lib.ListN.{length};
 ghost use Rattle.units.specs.Refusals.{check, Prints};
 ghost use Rattle.units.specs.Answers.{baseEnergyAnswer, baseEnergyRefusal};
-ghost use Rattle.utils.specs.Pair.{addToDg, closedBy, matched, bothMatch, afterWindow, badIn, pairSum, loopsVerdict, energyIn, pairLetters, pairTests, pairVerdict, sequencePairDgDs};
+ghost use Rattle.sequence_pairs.specs.Pair.{addToDg, closedBy, matched, bothMatch, afterWindow, badIn, pairSum, loopsVerdict, energyIn, pairLetters, pairTests, pairVerdict, sequencePairDgDs};
 use bases::letters::DnaNucleotideBase;
 use bases::letters::check_length;
 use bases::letters::check_letters;

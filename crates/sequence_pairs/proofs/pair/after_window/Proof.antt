@@ -1,10 +1,10 @@
--- `utils::pair::after_window` meets its contract, by what the windows before came to. Assumes nothing.
+-- `sequence_pairs::pair::after_window` meets its contract, by what the windows before came to. Assumes nothing.
 use Prim.Native.Nat.{_<_}
 use mathlib.Core.Path.{_∙_, ap}
 use borrow.Author.Needs.{needs}
-use Rattle.utils.specs.Pair.{badIn}
-use Rattle.utils.proofs.pair.after_window.Statement.{statement}
-use Rattle.utils.proofs.pair.after_window.Tie as tie
+use Rattle.sequence_pairs.specs.Pair.{badIn}
+use Rattle.sequence_pairs.proofs.pair.after_window.Statement.{statement}
+use Rattle.sequence_pairs.proofs.pair.after_window.Tie as tie
 
 enum-known-sum : tie.Need-enum-known-sum
 enum-known-sum c = search needs

@@ -12,8 +12,8 @@ use Rattle.units.specs.Answers.{baseEnergyAnswer}
 use Rattle.bases.specs.declared.letters.DnaNucleotideBase.{DnaNucleotideBase}
 use Rattle.bases.specs.declared.loops.LoopPenalty.{LoopPenalty}
 use Rattle.bases.specs.declared.loops.LoopPenalty.the-variants.{Value, NoValue}
-use Rattle.utils.specs.declared.pair.PairSum.{PairSum}
-use Rattle.utils.specs.declared.pair.PairSum.the-variants.{Going, NoLoopValue}
+use Rattle.sequence_pairs.specs.declared.pair.PairSum.{PairSum}
+use Rattle.sequence_pairs.specs.declared.pair.PairSum.the-variants.{Going, NoLoopValue}
 use Rattle.bases.specs.Letters.{baseAt, goodMatch, lengthVerdict, lettersVerdict}
 use Rattle.bases.specs.Steps.{dgDs, addEnergy, noEnergy}
 use Rattle.bases.specs.Mismatches.{singleMismatchPenalty}

@@ -1,7 +1,7 @@
--- `utils::pair::pair_answer` meets its contract, by what the windows came to. Assumes nothing.
+-- `sequence_pairs::pair::pair_answer` meets its contract, by what the windows came to. Assumes nothing.
 use borrow.Author.Needs.{needs}
-use Rattle.utils.proofs.pair.pair_answer.Statement.{statement}
-use Rattle.utils.proofs.pair.pair_answer.Tie as tie
+use Rattle.sequence_pairs.proofs.pair.pair_answer.Statement.{statement}
+use Rattle.sequence_pairs.proofs.pair.pair_answer.Tie as tie
 
 enum-known-sum : tie.Need-enum-known-sum
 enum-known-sum c = search needs

@@ -1,0 +1,3 @@
+pub mod Windows
+pub mod Refused
+pub mod Unique
