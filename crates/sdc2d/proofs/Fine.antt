@@ -21,7 +21,7 @@ pub record Fine (s : System) : Type 0 where
   pub seeds : length (s .seeds) / 3 ≤ firstBadSeed (s .sizes) (s .seeds)
 
 -- a list that no refusal names a place of has every number below the limit
-all-below : (number from limit : ℕ) (xs : List ℕ) → placeVerdict number from (λ g. ltb g limit) xs ≡ passes → (i : ℕ) → i < length xs → getD xs i 0 < limit
+pub all-below : (number from limit : ℕ) (xs : List ℕ) → placeVerdict number from (λ g. ltb g limit) xs ≡ passes → (i : ℕ) → i < length xs → getD xs i 0 < limit
 all-below number from limit xs e i h =
     let test : ℕ → Bool = λ g. ltb g limit in
     ltb-true (getD xs i 0) limit

@@ -15,7 +15,7 @@ use units::Check;
 use units::Refusal;
 
 // The first number that is not below `limit`, or the length.
-fn first_large(numbers: &[u32], limit: usize) -> usize
+pub fn first_large(numbers: &[u32], limit: usize) -> usize
     ensures { λ r. ⌜ r ≡ firstFailing (λ g. ltb g limit) (now (numbers .entry)) ⌝ }
 {
     let mut i = 0;
@@ -64,7 +64,7 @@ fn first_bad_log(logs: &[f64]) -> usize
 }
 
 // Refusal `number` with the place, counted on from `from`, where a place below the length was found.
-fn place_check(number: u32, from: usize, place: usize, count: usize) -> Check
+pub fn place_check(number: u32, from: usize, place: usize, count: usize) -> Check
     requires { ⌜ from + count < 2 ^ 64 ⌝ }
     ensures { λ r. ⌜ r ≡ check (refuseIf (ltb place count) number ((from + place) ∷ [])) ⌝ }
 {

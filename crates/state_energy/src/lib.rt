@@ -1,0 +1,5 @@
+// The energy of a layout.
+mod listing;
+mod state;
+
+pub use state::state_g;
