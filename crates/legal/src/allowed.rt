@@ -7,7 +7,7 @@ ghost use Rattle.units.specs.Refusals.{check, Prints};
 ghost use Rattle.sdc2d.specs.System.{system};
 ghost use Rattle.legal_at.specs.Legal.{legalAt};
 ghost use Rattle.legal_at.specs.Lists.{constraints, offsetsShaped};
-ghost use Rattle.legal_at.specs.Readable.{Grid};
+ghost use Rattle.legal_at.specs.OnGrid.{Grid};
 ghost use Rattle.legal.specs.Sets.{setsTo, shapeVerdict, allowedVerdict, setsAfter, Worked};
 use crate::grid::grid_sets;
 use entries::offsets_fit;

@@ -6,7 +6,7 @@ ghost use lib.ListN.{length, take};
 ghost use Rattle.units.specs.Refusals.{check};
 ghost use Rattle.legal_at.specs.Legal.{legalAt};
 ghost use Rattle.legal_at.specs.Lists.{constraints, offsetsShaped};
-ghost use Rattle.legal_at.specs.Readable.{Grid};
+ghost use Rattle.legal_at.specs.OnGrid.{Grid};
 ghost use Rattle.legal.specs.Sets.{setsTo, firstEmpty, emptyVerdict};
 use crate::scan::bay_at;
 use legal_at::constrained_allowed_tiles_at;

@@ -13,7 +13,7 @@ use Rattle.sdc2d.specs.declared.sizes.Sizes.{Sizes}
 use Rattle.legal_at.specs.declared.seeds.Seed.{Seed}
 use Rattle.legal_at.specs.declared.seeds.Seed.the-variants.{Unseeded, Seeded}
 use Rattle.legal_at.specs.Legal.{seedAt, mayLie, permits, permitted}
-use Rattle.legal_at.specs.Readable.{Below}
+use Rattle.legal_at.specs.OnGrid.{Below}
 
 and-false : (a : Bool) → false ≡ (a && false)
 and-false true = refl

@@ -13,7 +13,7 @@ use Rattle.sdc2d.specs.System.{seedFits, firstBadSeed}
 use Rattle.legal_at.specs.declared.seeds.Seed.{Seed}
 use Rattle.legal_at.specs.declared.seeds.Seed.the-variants.{Unseeded, Seeded}
 use Rattle.legal_at.specs.Legal.{later, seedAt}
-use Rattle.legal_at.specs.Readable.{Below}
+use Rattle.legal_at.specs.OnGrid.{Below}
 
 below-later : (limit : ℕ) (new old : Seed) → Below limit new → Below limit old → Below limit (later new old)
 below-later limit Unseeded old n o = o

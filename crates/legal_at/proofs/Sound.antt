@@ -6,7 +6,7 @@ use Rattle.units.specs.Refusals.{passes}
 use Rattle.sdc2d.specs.System.{System, systemVerdict}
 use Rattle.sdc2d.proofs.Ranges.{Shaped}
 use Rattle.sdc2d.proofs.Fine.{Fine, fine}
-use Rattle.legal_at.specs.Readable.{Readable, OnGrid, Grid}
+use Rattle.legal_at.specs.OnGrid.{Grid}
 use Rattle.legal_at.proofs.SeedBelow.{seed-below}
 
 of-fine : (s : System) → Fine s → Grid (s .sizes) (s .strandGlues) (s .scaffold) (s .deltaG) (s .entropy) (s .seeds)

@@ -1,3 +1,3 @@
 pub mod Lists
 pub mod Legal
-pub mod Readable
+pub mod OnGrid

@@ -1,29 +1,21 @@
 -- What the inner functions ask of a system that passed its tests. Assumes nothing.
+use Rattle.bonds.specs.Readable.{Readable}
 use Rattle.sdc2d.specs.declared.sizes.Sizes.{Sizes}
 use Rattle.legal_at.specs.declared.seeds.Seed.{Seed}
 use Rattle.legal_at.specs.declared.seeds.Seed.the-variants.{Unseeded, Seeded}
 use Rattle.legal_at.specs.Legal.{seedAt}
-use Prim.Native.Nat.{ℕ, _*_, _%_, _≤_, _<_}
+use Prim.Native.Nat.{ℕ, _%_, _≤_, _<_}
 use mathlib.Core.Path.{_≡_}
 use mathlib.Core.List.{List}
 use lib.Ieee.{Float}
 use lib.ListN.{length, getD}
-
--- glues in range, two square matrices over them, five glues for each strand, each below the count
-pub record Readable (strands glues : ℕ) (strandGlues : List ℕ) (deltaG entropy : List Float) : Type 0 where
-  pub few-strands : strands ≤ 64
-  pub few-glues : glues ≤ 256
-  pub energies : length deltaG ≡ glues * glues
-  pub entropies : length entropy ≡ glues * glues
-  pub five : length strandGlues ≡ strands * 5
-  pub below : (i : ℕ) → i < length strandGlues → getD strandGlues i 0 < glues
 
 -- a seed that is there is below a limit
 abbrev pub Below : ℕ → Seed → Type 0
 Below limit Unseeded = Unit {0}
 Below limit (Seeded strand) = strand < limit
 
--- of one bay besides: its glue and its seed are below their counts, and seeds come in triples
+-- of a bay: its glue and its seed are below their counts, and seeds come in triples
 pub record OnGrid (z : Sizes) (scaffold seeds : List ℕ) (bay : ℕ) : Type 0 where
   pub inside : bay < length scaffold
   pub glue : getD scaffold bay 0 < z .glues
