@@ -98,7 +98,7 @@ fn refused(number: u32) -> Check
 }
 
 // Refusal 1 for a size or a length, then 17 for a flag, an offset or a base; the matrices by their lengths.
-pub fn check_lent(
+pub(crate) fn check_lent(
     text: &[u8],
     offsets: &[usize],
     paired: &[u8],

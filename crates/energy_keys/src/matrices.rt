@@ -56,7 +56,7 @@ fn set_key(
 }
 
 // Both matrices as the keys leave them.
-pub fn set_keys(
+pub(crate) fn set_keys(
     text: &[u8],
     offsets: &[usize],
     paired: &[u8],

@@ -106,7 +106,7 @@ fn joined_by(
 }
 
 // What key k joins.
-pub fn key_joined(
+pub(crate) fn key_joined(
     text: &[u8],
     offsets: &[usize],
     paired: &[u8],

@@ -3,7 +3,6 @@ mod lookup;
 mod stars;
 mod tables;
 
-pub use lookup::glue_at;
 pub use lookup::place_of;
 pub use stars::check_stars;
 pub use tables::fill_scaffold;

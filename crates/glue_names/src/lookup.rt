@@ -28,7 +28,7 @@ pub fn place_of(
 }
 
 // The glue of entry i.
-pub fn glue_at(
+pub(crate) fn glue_at(
     text: &[u8],
     offsets: &[usize],
     present: &[u8],

@@ -18,7 +18,7 @@ fn put_seed(seeds: &mut [u32], k: usize, row: u32, col: u32, strand: u32)
 }
 
 // The triples of all seeds. Where the tests passed each row and column is below 32.
-pub fn fill_seeds(
+pub(crate) fn fill_seeds(
     text: &[u8],
     offsets: &[usize],
     present: &[u8],

@@ -6,7 +6,7 @@ ghost use lib.ListN.{length};
 ghost use Rattle.entries.specs.Entries.{entryOf, offsetsFit};
 ghost use Rattle.tile_names.specs.Names.{names, Readable};
 ghost use Rattle.named_seeds.specs.Seeds.{seedStrand};
-use tile_names::names::entry;
+use entries::entry;
 use tile_names::names::shows;
 
 // The first tile with this shown name, or the count of tiles where there is none.
@@ -32,7 +32,7 @@ fn first_shown(
 }
 
 // The same for the name of seed k.
-pub fn seed_strand(
+pub(crate) fn seed_strand(
     text: &[u8],
     offsets: &[usize],
     present: &[u8],

@@ -181,7 +181,7 @@ fn all_read(
 }
 
 // All of 1, then all of 17, then seed by seed.
-pub fn check_named_seeds(
+pub(crate) fn check_named_seeds(
     rows: usize,
     cols: usize,
     strands: usize,

@@ -72,7 +72,7 @@ fn is_readable(text: &[u8], offsets: &[usize], present: &[u8]) -> bool
 }
 
 // What is refused before registering: a size or a length, then names that cannot be read.
-pub fn check_input(
+pub(crate) fn check_input(
     rows: usize,
     cols: usize,
     strands: usize,

@@ -19,7 +19,7 @@ fn in_range(n: usize, most: usize) -> bool
 }
 
 // Whether the sizes and the temperature are in document 01's ranges.
-pub fn sizes_fit(z: Sizes) -> bool
+pub(crate) fn sizes_fit(z: Sizes) -> bool
     ensures { λ r. ⌜ r ≡ sizesFit z ⌝ }
 {
     if !in_range(z.rows, 32) {

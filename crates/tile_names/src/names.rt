@@ -34,8 +34,8 @@ pub fn names_sized(strands: usize, text: &[u8], offsets: &[usize], present: &[u8
     present.len() == strands
 }
 
-// Entry i of a text.
-pub fn entry<'a>(text: &'a [u8], offsets: &[usize], i: usize) -> &'a [u8]
+// Entry i of a text, as `entries` gives it, and where in the text it lies.
+pub(crate) fn entry<'a>(text: &'a [u8], offsets: &[usize], i: usize) -> &'a [u8]
     requires { ⌜ i + 1 < length (now offsets) ⌝ }
     requires { ⌜ offsetsFit (length (now text)) (now offsets) ≡ true ⌝ }
     ensures bytes { λ r. ⌜ now r ≡ entryOf (now (text .entry)) (now (offsets .entry)) i ⌝ }
@@ -98,7 +98,7 @@ fn numeral(numerals: &[u8], i: usize) -> &[u8]
 }
 
 // The part that is shown for a tile.
-pub fn shown<'a>(
+pub(crate) fn shown<'a>(
     text: &'a [u8],
     offsets: &[usize],
     present: &[u8],

@@ -17,7 +17,7 @@ returns : tie.Need-returns
 returns c =
     let a = c .before .before .before .before .before .before .before .before .args in (
       c .first-shown .ensures .0
-          ∙ ap (seedStrand (names (now (a .text)) (now (a .offsets)) (now (a .present)) (now (a .numerals)))) (c .before .entry .ensures .0),
+          ∙ ap (seedStrand (names (now (a .text)) (now (a .offsets)) (now (a .present)) (now (a .numerals)))) (c .before .entry .ensures),
       c .first-shown .ensures .1,
     )
 
