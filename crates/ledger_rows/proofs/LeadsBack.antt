@@ -1,0 +1,91 @@
+-- The notes lead back from each row to a legal filling at that row, whose scan sum is the row's energy; whether or not any sum is bad.
+-- Assumes nothing.
+use mathlib.Core.Path.{_≡_, refl, sym, ap, _∙_, subst}
+use mathlib.Core.List.{List, [], _∷_}
+use Prim.Native.Nat.{ℕ, zero, suc, _+_, _*_, _/_, _%_, _<_}
+use native.Mathlib.Omega.{arith}
+use lib.Arith.{digits-lt}
+use lib.Ieee.{Float}
+use lib.ListN.{length, getD}
+use Rattle.floats.specs.declared.Choice.{Choice}
+use Rattle.ledger_rows.specs.Scan.{Scan, Legal, scanSum, Filled, Rising}
+use Rattle.ledger_rows.specs.Blocks.{size, leavers, heldAt, cameFrom, candidate, rowOf, energies, notes}
+use Rattle.ledger_rows.specs.Trace.{below, rowBefore, trace}
+use Rattle.ledger_rows.proofs.Choosing.{Chosen, chosen}
+use Rattle.ledger_rows.proofs.Numbering.{Digits, digits, row, leaves, same-rest, same-whole, size-more, size-leavers, leavers-some, row-lt, row-splits}
+use Rattle.ledger_rows.proofs.Rows.{energies-at, notes-at}
+use Rattle.ledger_rows.proofs.Least.{goesOn, none-held, filling-candidate}
+use Rattle.ledger_rows.proofs.Places.{below-at, leavers-rise}
+
+-- row i of block k leads back to the filling f
+pub record Back (z : Scan) (k i : ℕ) (f : List ℕ) : Type 0 where
+  pub legal : Legal z k f
+  pub at : row z k (suc (z .kept)) f legal ≡ i
+  pub sum : scanSum z f ≡ heldAt (energies z k) i
+
+module _ (z : Scan) where
+  -- before the first bay there is the empty filling
+  none : (i : ℕ) → i < size z 0 (suc (z .kept)) → Back z 0 i []
+  unfolding size row scanSum
+  none i h = record { legal = tt; at = omega arith; sum = sym (none-held z i) }
+
+  -- a filling at row a·w + q goes on with the strand at position p to row q·c + p, where the strand at position a is chosen to leave
+  goes-on : (k q p a : ℕ) (f : List ℕ) → q < size z k (z .kept) → p < length (z .strands k)
+      → rowOf z (energies z k) k q p ≡ candidate z (energies z k) k q p a → Back z k (cameFrom z k q a) f
+      → Back z (suc k) (q * length (z .strands k) + p) (getD (z .strands k) p 0 ∷ f)
+  unfolding row scanSum
+  goes-on k q p a f h b held before =
+      let l = before .legal in
+      let w = size z k (z .kept) in
+      let t = getD (z .strands k) p 0 in
+      let split : leaves z (z .kept) k f l * w + row z k (z .kept) f l ≡ a * w + q = sym (row-splits z (z .kept) k f l) ∙ before .at in
+      let rest : row z k (z .kept) f l ≡ q = same-rest (leaves z (z .kept) k f l) a w (row z k (z .kept) f l) q (row-lt z k (z .kept) f l) h split in
+      let leaver : leaves z (z .kept) k f l ≡ a = same-whole (leaves z (z .kept) k f l) a w (row z k (z .kept) f l) q (row-lt z k (z .kept) f l) h split in
+      let own : candidate z (energies z k) k (row z k (z .kept) f l) p (leaves z (z .kept) k f l) .energy ≡ goesOn z (heldAt (energies z k) (row z k (suc (z .kept)) f l)) f t =
+      filling-candidate z (energies z k) k t f ((p, b, refl), l) in
+      let moved : candidate z (energies z k) k q p a .energy ≡ goesOn z (heldAt (energies z k) (row z k (suc (z .kept)) f l)) f t = rw (rest, leaver) at own in
+      record {
+        legal = ((p, b, refl), l);
+        at = ap (λ r. r * length (z .strands k) + p) rest;
+        sum =
+            ap (λ x. goesOn z x f t) (before .sum ∙ ap (heldAt (energies z k)) (sym (before .at)))
+            ∙ sym moved
+            ∙ ap (λ (c : Choice). c .energy) (sym held)
+            ∙ sym (energies-at z k q p h b);
+      }
+
+  -- from row q·c + p the note leads to the row from which the chosen candidate came
+  leads : (k q p a : ℕ) → Rising (leavers z (z .kept) k) → q < size z k (z .kept) → p < length (z .strands k) → a < length (leavers z (z .kept) k)
+      → rowOf z (energies z k) k q p ≡ candidate z (energies z k) k q p a
+      → below (leavers z (z .kept) k) (getD (notes z (suc k)) (q * length (z .strands k) + p) 0) ≡ a
+  leads k q p a rises h b within held =
+      ap (below (leavers z (z .kept) k)) (notes-at z k q p h b ∙ ap (λ (c : Choice). c .who) held)
+      ∙ below-at (leavers z (z .kept) k) a rises within
+
+  came-lt : (k q a : ℕ) → q < size z k (z .kept) → a < length (leavers z (z .kept) k) → cameFrom z k q a < size z k (suc (z .kept))
+  came-lt k q a h b = rw (size-leavers z (z .kept) k) (digits-lt b h)
+
+  -- one step back, where the filling that the row before leads to is known
+  step : (k i : ℕ) → Filled z (suc k) → ((k : ℕ) → Rising (z .strands k)) → i < size z (suc k) (suc (z .kept))
+      → ((i : ℕ) → i < size z k (suc (z .kept)) → Back z k i (trace z k i))
+      → Back z (suc k) i (getD (z .strands k) (i % length (z .strands k)) 0 ∷ trace z k (rowBefore z k i))
+  step k i some rise h before =
+      let c = length (z .strands k) in
+      let q = i / c in
+      let p = i % c in
+      let w = size z k (z .kept) in
+      let d : Digits i w c = digits i w c (subst (λ s. i < s) (size-more z k (z .kept)) h) in
+      let found = chosen (candidate z (energies z k) k q p) (length (leavers z (z .kept) k)) (leavers-some z (z .kept) k (λ j b. some j (omega arith))) in
+      let a = found .0 in
+      let back : rowBefore z k i ≡ cameFrom z k q a =
+      ap (λ s. cameFrom z k q (below (leavers z (z .kept) k) (getD (notes z (suc k)) s 0))) (sym (d .split))
+      ∙ ap (cameFrom z k q) (leads k q p a (leavers-rise z rise (z .kept) k) (d .whole) (d .rest) (found .1 .within) (found .1 .held)) in
+      let old : Back z k (cameFrom z k q a) (trace z k (cameFrom z k q a)) = before (cameFrom z k q a) (came-lt k q a (d .whole) (found .1 .within)) in
+      let old′ : Back z k (cameFrom z k q a) (trace z k (rowBefore z k i)) = subst (λ r. Back z k (cameFrom z k q a) (trace z k r)) (sym back) old in
+      subst (λ r. Back z (suc k) r (getD (z .strands k) p 0 ∷ trace z k (rowBefore z k i))) (d .split)
+      (goes-on k q p a (trace z k (rowBefore z k i)) (d .whole) (d .rest) (found .1 .held) old′)
+
+  pub leads-back : (k i : ℕ) → Filled z k → ((k : ℕ) → Rising (z .strands k)) → i < size z k (suc (z .kept)) → Back z k i (trace z k i)
+  unfolding trace
+  leads-back zero i some rise h = none i h
+  leads-back (suc k) i some rise h = step k i some rise h (λ r b. leads-back k r (λ j g. some j (omega arith)) rise b)

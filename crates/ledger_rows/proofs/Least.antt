@@ -1,0 +1,82 @@
+-- A good row is at most the scan sum of every legal filling that ends in its choice, and then that sum is good too. Assumes nothing.
+use mathlib.Core.Path.{_≡_, refl, sym, ap, _∙_}
+use mathlib.Core.Bool.{true}
+use mathlib.Core.List.{List, [], _∷_}
+use Prim.Native.Nat.{ℕ, zero, suc, _+_, _*_, _<_}
+use native.Mathlib.Omega.{arith}
+use lib.Ieee.{Float, binary64, ofBits, add, le}
+use lib.ListN.{length, getD}
+use Rattle.floats.specs.declared.Choice.{Choice}
+use Rattle.floats.specs.Values.{Good}
+use Rattle.floats.proofs.Order.{le-trans}
+use Rattle.floats.proofs.Good.{good-le-refl, zero-good}
+use Rattle.floats.proofs.Add.{good-left, add-mono, add-mono-good}
+use Rattle.ledger_rows.specs.Scan.{Scan, Legal, scanSum}
+use Rattle.ledger_rows.specs.Blocks.{size, leavers, newest, heldAt, cameFrom, candidate, rowOf, energies}
+use Rattle.ledger_rows.proofs.Choosing.{Chosen, chosen}
+use Rattle.ledger_rows.proofs.Numbering.{row, leaves, row-lt, row-splits, leaves-lt, leaves-at, newest-at, legal-length}
+use Rattle.ledger_rows.proofs.Rows.{energies-at}
+
+-- the sum with which a filling goes on
+abbrev pub goesOn : Scan → Float → List ℕ → ℕ → Float
+goesOn z sum f t = add binary64 sum (z .added (length f) (getD f (z .kept) 0) (getD f 0 0) t)
+
+-- below a good choice every candidate is good, and so is what it went on from
+sum-over : (x y c r : Float) → Good r → le r (add binary64 x c) ≡ true → Good (add binary64 x c) → (Good x → Good y × (le x y ≡ true))
+    → Good (add binary64 y c) × (le r (add binary64 y c) ≡ true)
+sum-over x y c r g h a before =
+    let old = before (good-left binary64 x c a) in
+    (add-mono-good binary64 x y c (old .1) a, le-trans r (add binary64 x c) (add binary64 y c) h (add-mono binary64 x y c (old .1) a))
+
+module _ (z : Scan) where
+  -- before the first bay the sum is 0.0
+  pub none-held : (i : ℕ) → heldAt (energies z zero) i ≡ ofBits binary64 0
+  unfolding energies
+  none-held i = refl
+
+  -- the candidate that a filling of k bays gives for strand t: its own row, and what t adds to it
+  pub filling-candidate : (before : List Float) (k t : ℕ) (f : List ℕ) (l : Legal z (suc k) (t ∷ f))
+      → candidate z before k (row z k (z .kept) f (l .1)) (l .0 .0) (leaves z (z .kept) k f (l .1)) .energy
+      ≡ goesOn z (heldAt before (row z k (suc (z .kept)) f (l .1))) f t
+  filling-candidate before k t f l =
+      let a = leaves z (z .kept) k f (l .1) in
+      let i = row z k (suc (z .kept)) f (l .1) in
+      let at : cameFrom z k (row z k (z .kept) f (l .1)) a ≡ i = sym (row-splits z (z .kept) k f (l .1)) in
+      let s : getD (leavers z (z .kept) k) a 0 ≡ getD f (z .kept) 0 = leaves-at z (z .kept) k f (l .1) in
+      let u : newest z k i ≡ getD f 0 0 = newest-at z k (z .kept) f (l .1) in
+      let n : k ≡ length f = sym (legal-length z k f (l .1)) in
+      let h : getD (z .strands k) (l .0 .0) 0 ≡ t = l .0 .2 in
+      rw (at, s, u, h) (ap (λ m. add binary64 (heldAt before i) (z .added m (getD f (z .kept) 0) (getD f 0 0) t)) n)
+
+  -- the row of the filling with one bay more: the chosen candidate is good, so the filling's own is good and no smaller
+  least-more : (k t : ℕ) (f : List ℕ) (l : Legal z (suc k) (t ∷ f))
+      → (Good (heldAt (energies z k) (row z k (suc (z .kept)) f (l .1)))
+      → Good (scanSum z f) × (le (heldAt (energies z k) (row z k (suc (z .kept)) f (l .1))) (scanSum z f) ≡ true))
+      → Good (rowOf z (energies z k) k (row z k (z .kept) f (l .1)) (l .0 .0) .energy)
+      → Good (goesOn z (scanSum z f) f t) × (le (rowOf z (energies z k) k (row z k (z .kept) f (l .1)) (l .0 .0) .energy) (goesOn z (scanSum z f) f t) ≡ true)
+  least-more k t f l before g =
+      let q = row z k (z .kept) f (l .1) in
+      let a = leaves z (z .kept) k f (l .1) in
+      let n = length (leavers z (z .kept) k) in
+      let next = candidate z (energies z k) k q (l .0 .0) in
+      let within : a < n = leaves-lt z (z .kept) k f (l .1) in
+      let found = chosen next n (omega arith) in
+      let held : rowOf z (energies z k) k q (l .0 .0) ≡ next (found .0) = found .1 .held in
+      let good : Good (next (found .0) .energy) = rw held at g in
+      let own = found .1 .least good a within in
+      let same : next a .energy ≡ goesOn z (heldAt (energies z k) (row z k (suc (z .kept)) f (l .1))) f t = filling-candidate (energies z k) k t f l in
+      rw held
+      (sum-over (heldAt (energies z k) (row z k (suc (z .kept)) f (l .1))) (scanSum z f) (z .added (length f) (getD f (z .kept) 0) (getD f 0 0) t) (next (found .0) .energy) good
+      (rw same at (own .1)) (rw same at (own .0)) before)
+
+  pub least : (k : ℕ) (f : List ℕ) (l : Legal z k f) → Good (heldAt (energies z k) (row z k (suc (z .kept)) f l))
+      → Good (scanSum z f) × (le (heldAt (energies z k) (row z k (suc (z .kept)) f l)) (scanSum z f) ≡ true)
+  unfolding scanSum row
+  least zero [] l g = rw (none-held 0) (zero-good, good-le-refl (ofBits binary64 0) zero-good)
+  least zero (t ∷ f) l g = absurd l
+  least (suc k) [] l g = absurd l
+  least (suc k) (t ∷ f) l g =
+      let q = row z k (z .kept) f (l .1) in
+      let at : heldAt (energies z (suc k)) (q * length (z .strands k) + l .0 .0) ≡ rowOf z (energies z k) k q (l .0 .0) .energy =
+      energies-at z k q (l .0 .0) (row-lt z k (z .kept) f (l .1)) (l .0 .1) in
+      rw at (least-more k t f l (least k f (l .1)) (rw at at g))

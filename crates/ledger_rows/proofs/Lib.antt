@@ -1,0 +1,11 @@
+pub mod Choosing
+pub mod Lists
+pub mod Numbering
+pub mod Rows
+pub mod Least
+pub mod Places
+pub mod LeadsBack
+pub mod Windows
+pub mod Tables
+pub mod TheLedgerIsRight
+pub mod Computed
