@@ -28,6 +28,11 @@ sum-over x y c r g h a before =
     let old = before (good-left binary64 x c a) in
     (add-mono-good binary64 x y c (old .1) a, le-trans r (add binary64 x c) (add binary64 y c) h (add-mono binary64 x y c (old .1) a))
 
+-- the same number added to the same row
+same-sum : (z : Scan) (before : List Float) {i i′ k k′ s s′ u u′ t t′ : ℕ} → i ≡ i′ → k ≡ k′ → s ≡ s′ → u ≡ u′ → t ≡ t′
+    → add binary64 (heldAt before i) (z .added k s u t) ≡ add binary64 (heldAt before i′) (z .added k′ s′ u′ t′)
+same-sum z before a b c d e = cc
+
 module _ (z : Scan) where
   -- before the first bay the sum is 0.0
   pub none-held : (i : ℕ) → heldAt (energies z zero) i ≡ ofBits binary64 0
@@ -39,14 +44,8 @@ module _ (z : Scan) where
       → candidate z before k (row z k (z .kept) f (l .1)) (l .0 .0) (leaves z (z .kept) k f (l .1)) .energy
       ≡ goesOn z (heldAt before (row z k (suc (z .kept)) f (l .1))) f t
   filling-candidate before k t f l =
-      let a = leaves z (z .kept) k f (l .1) in
-      let i = row z k (suc (z .kept)) f (l .1) in
-      let at : cameFrom z k (row z k (z .kept) f (l .1)) a ≡ i = sym (row-splits z (z .kept) k f (l .1)) in
-      let s : getD (leavers z (z .kept) k) a 0 ≡ getD f (z .kept) 0 = leaves-at z (z .kept) k f (l .1) in
-      let u : newest z k i ≡ getD f 0 0 = newest-at z k (z .kept) f (l .1) in
-      let n : k ≡ length f = sym (legal-length z k f (l .1)) in
-      let h : getD (z .strands k) (l .0 .0) 0 ≡ t = l .0 .2 in
-      rw (at, s, u, h) (ap (λ m. add binary64 (heldAt before i) (z .added m (getD f (z .kept) 0) (getD f 0 0) t)) n)
+      let at = sym (row-splits z (z .kept) k f (l .1)) in
+      same-sum z before at (sym (legal-length z k f (l .1))) (leaves-at z (z .kept) k f (l .1)) (ap (newest z k) at ∙ newest-at z k (z .kept) f (l .1)) (l .0 .2)
 
   -- the row of the filling with one bay more: the chosen candidate is good, so the filling's own is good and no smaller
   least-more : (k t : ℕ) (f : List ℕ) (l : Legal z (suc k) (t ∷ f))

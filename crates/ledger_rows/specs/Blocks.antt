@@ -49,23 +49,29 @@ unfoldable pub lowest : (ℕ → Choice) → ℕ → Choice
 lowest next zero = next 0
 lowest next (suc n) = lower (lowest next n) (next n)
 
--- the row of the block before from which row q·c + p of block k + 1 comes if the strand at position a leaves
+-- what row a·width + q of the block before comes to if the strand at position a leaves and `adds` is what the new bay adds beside it
+abbrev pub candidateFrom : List Float → (width : ℕ) → (leaving : List ℕ) → (adds : ℕ → ℕ → Float) → (q a : ℕ) → Choice
+candidateFrom before width leaving adds q a =
+    record { energy = add binary64 (heldAt before (a * width + q)) (adds a (getD leaving a 0)); who = getD leaving a 0 }
+
+-- a row: the lowest over the strands that leave
+abbrev pub rowFrom : List Float → (width : ℕ) → (leaving : List ℕ) → (adds : ℕ → ℕ → Float) → (q : ℕ) → Choice
+rowFrom before width leaving adds q = lowest (candidateFrom before width leaving adds q) (length leaving)
+
+-- the row of block k from which row q·c + p of block k + 1 comes if the strand at position a leaves
 abbrev pub cameFrom : Scan → (k q a : ℕ) → ℕ
 cameFrom z k q a = a * size z k (z .kept) + q
 
--- what that row and the strand at position p of bay k come to, with the strand that leaves
-abbrev pub candidate : Scan → List Float → (k q p a : ℕ) → Choice
-candidate z before k q p a =
-    record {
-      energy =
-          add binary64 (heldAt before (cameFrom z k q a))
-          (z .added k (getD (leavers z (z .kept) k) a 0) (newest z k (cameFrom z k q a)) (getD (z .strands k) p 0));
-      who = getD (leavers z (z .kept) k) a 0;
-    }
+-- what the strand at position p of bay k adds, where strand s at position a leaves
+abbrev pub addsAt : Scan → (k q p a s : ℕ) → Float
+addsAt z k q p a s = z .added k s (newest z k (cameFrom z k q a)) (getD (z .strands k) p 0)
 
--- row q·c + p of block k + 1: the lowest over the strands that leave
+abbrev pub candidate : Scan → List Float → (k q p a : ℕ) → Choice
+candidate z before k q p = candidateFrom before (size z k (z .kept)) (leavers z (z .kept) k) (addsAt z k q p) q
+
+-- row q·c + p of block k + 1
 abbrev pub rowOf : Scan → List Float → (k q p : ℕ) → Choice
-rowOf z before k q p = lowest (candidate z before k q p) (length (leavers z (z .kept) k))
+rowOf z before k q p = rowFrom before (size z k (z .kept)) (leavers z (z .kept) k) (addsAt z k q p) q
 
 -- one part of each row of block k + 1: the strand of bay k is the fastest
 abbrev pub blockOf : {A : Type 0} → (Choice → A) → Scan → List Float → ℕ → List A
