@@ -118,9 +118,9 @@ chosen next (suc (suc n)) some =
     comes next (suc n) (old .0) (old .1)
 
 -- ---- as a loop makes it
-pub lowest-start : (next : ℕ → Choice) → next 0 ≡ lowest next 0
+pub lowest-one : (next : ℕ → Choice) → lowest next 1 ≡ next 0
 unfolding lowest
-lowest-start next = refl
+lowest-one next = lower-itself (next 0)
 
 pub lowest-turn : (next : ℕ → Choice) (n : ℕ) {old new : Choice} → old ≡ lowest next n → new ≡ lower old (next n) → new ≡ lowest next (n + 1)
 unfolding lowest
