@@ -1,2 +1,4 @@
 pub mod Reading
 pub mod Leaving
+pub mod Over
+pub mod Lining

@@ -1,7 +1,7 @@
 -- One bay's block, from what the code has at hand when it writes it. Assumes nothing.
 use mathlib.Core.Bool.{cond, not}
 use mathlib.Core.List.{List, _++_}
-use Prim.Native.Nat.{ℕ, _+_, _-_, _%_}
+use Prim.Native.Nat.{ℕ, _+_, _-_, _%_, _≤_, _<_}
 use lib.Dec.{eqb, leb}
 use lib.Ieee.{Float, nan, binary64, add}
 use lib.ListN.{length, getD, take, drop}
@@ -14,6 +14,19 @@ use Rattle.ledger_fill.specs.Handed.{strandsOf, bondAt, withBond}
 -- a stretch of a list is written anew, and nothing else
 abbrev pub over : {A : Type 0} → List A → ℕ → List A → List A
 over old at new = take at old ++ (new ++ drop (at + length new) old)
+
+-- the part of a list from a place to another
+abbrev pub part : {A : Type 0} → (from end : ℕ) → List A → List A
+part from end l = take (end - from) (drop from l)
+
+-- `count` rows fit both tables at `at`, behind the block before, and the bay's numbers are small enough to count with
+pub record Writable (b : Bay) (from end at count energies notes : ℕ) : Type 0 where
+  pub small : b .width ≤ 1048576
+  pub some-leave : 0 < length (strandsOf (b .leaving))
+  pub from-end : from ≤ end
+  pub behind : end ≤ at
+  pub energies-fit : at + count ≤ energies
+  pub notes-fit : at + count ≤ notes
 
 -- what a strand adds, with strand s on the bay of the previous major line
 abbrev pub ownAdds : Own → (major : List Float) → (s : ℕ) → Float

@@ -1,4 +1,12 @@
-// One bay's block.
+// One bay's block, written line by line: for each row q of what stays, the rows of the bay's strands.
+ghost use mathlib.Core.Path.{_≡_};
+ghost use Prim.Native.Nat.{_+_, _-_, _≤_, _<_};
+ghost use lib.ListN.{length, take, drop};
+ghost use Rattle.ledger_fill.specs.Handed.{strandsOf};
+ghost use Rattle.ledger_fill.specs.Bays.{Writable, over, part, ownOf, bayLine};
+use crate::rows::Own;
+use crate::rows::bond_at;
+use crate::rows::row;
 
 // What the code knows of a bay when it writes its block.
 pub struct Bay {
@@ -8,4 +16,50 @@ pub struct Bay {
     pub width: usize,
     pub below: bool,
     pub beside: bool,
+}
+
+// What is fixed of strand t on the bay, with u on the previous bay.
+fn own_of(bay: Bay, here: &[f64], side: &[f64; 4096], u: usize, t: usize) -> Own
+    requires { ⌜ (u < 64) × (t < 64) × (64 ≤ length (now here)) ⌝ }
+    ensures { λ r. ⌜ r ≡ ownOf bay (now (here .entry)) (now (side .entry)) u t ⌝ }
+{
+    Own {
+        strand: t,
+        bay: here[t],
+        side: bond_at(side, u, t),
+        below: bay.below,
+        beside: bay.beside,
+    }
+}
+
+// Writes the rows of the bay's strands from `at` on, for row q of what stays and u on the previous
+// bay. The block before stands from `from` to `end`.
+fn put_line(
+    bay: Bay,
+    here: &[f64],
+    major: &[f64; 4096],
+    side: &[f64; 4096],
+    q: usize,
+    u: usize,
+    from: usize,
+    end: usize,
+    at: usize,
+    energies: &mut [f64],
+    notes: &mut [u8],
+)
+    requires { ⌜ (u < 64) × (q < bay .width) × (64 ≤ length (now here)) ⌝ }
+    requires { ⌜ Writable bay from end at (length (strandsOf (bay .set))) (length (now energies)) (length (now notes)) ⌝ }
+    ensures { λ _. ⌜ now (energies .exit) ≡ over (now (energies .entry)) at (bayLine (λ c. c .energy) bay (now (here .entry)) (now (major .entry)) (now (side .entry)) (part from end (now (energies .entry))) q u) ⌝ }
+    ensures { λ _. ⌜ now (notes .exit) ≡ over (now (notes .entry)) at (bayLine (λ c. c .who) bay (now (here .entry)) (now (major .entry)) (now (side .entry)) (part from end (now (energies .entry))) q u) ⌝ }
+{
+    let mut t = sets::next(bay.set, 0);
+    let mut j = at;
+    while t < 64 {
+        let own = own_of(bay, here, side, u, t as usize);
+        let best = row(&energies[from..end], q, bay.width, bay.leaving, major, own);
+        energies[j] = best.energy;
+        notes[j] = best.who as u8;
+        t = sets::next(bay.set, t + 1);
+        j += 1;
+    }
 }

@@ -28,11 +28,19 @@ tab-at f (suc n) i d h = ⊎-elim last (λ l. earlier l ∙ tab-at f n i d l) (e
     earlier : i < n → getD (tab f n ++ (f n ∷ [])) i d ≡ getD (tab f n) i d
     earlier l = List·getD-append (tab f n) (f n ∷ []) d i (subst (λ k. i < k) (sym (length-tab f n)) l)
 
+pub tab-none : {A : Type 0} (f : ℕ → A) → tab f 0 ≡ []
+unfolding tab
+tab-none f = refl
+
 pub tab-more : {A : Type 0} (f : ℕ → A) (n : ℕ) → tab f (n + 1) ≡ tab f n ++ (f n ∷ [])
 unfolding tab
 tab-more f n = rw (add-one n)
 
 -- ---- lists of one length, one behind the other
+pub flat-none : {A : Type 0} (f : ℕ → List A) → flat f 0 ≡ []
+unfolding flat
+flat-none f = refl
+
 pub flat-more : {A : Type 0} (f : ℕ → List A) (n : ℕ) → flat f (n + 1) ≡ flat f n ++ f n
 unfolding flat
 flat-more f n = rw (add-one n)
