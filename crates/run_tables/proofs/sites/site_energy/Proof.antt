@@ -1,0 +1,24 @@
+-- `run_tables::sites::site_energy` meets its contract. Assumes nothing.
+use lib.Ieee.{ofBits}
+use borrow.Author.Needs.{needs}
+use borrow.Author.Tests.{lt-ltb, le-ltb}
+use Rattle.beta_energies.specs.OnBay.{OnBay}
+use Rattle.units.specs.Decimals.{decimal}
+use Rattle.run_tables.proofs.sites.site_energy.Statement.{statement}
+use Rattle.run_tables.proofs.sites.site_energy.Tie as tie
+
+site-beta-energy-requires : tie.Need-site-beta-energy-requires
+site-beta-energy-requires c κs =
+    let s = c .before .before .before .before .before .before .before in
+    let bay = s .pre .1 in
+    (s .pre .0, record { inside = bay .inside; glue = bay .glue; strand-below = c .if1 .taken; each-strand = bay .each-strand })
+
+returns : tie.Need-returns
+returns c = rw (lt-ltb _ _ (c .before .if1 .taken)) (c .site-beta-energy .ensures)
+
+returns-2 : tie.Need-returns-2
+unfolding ofBits decimal
+returns-2 c = rw (le-ltb _ _ (c .if1 .left))
+
+pub site-energy-spec : {M : Type 1} → statement M
+site-energy-spec = tie.close (tie.spec site-beta-energy-requires returns returns-2)

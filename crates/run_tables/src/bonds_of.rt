@@ -1,0 +1,56 @@
+// The bonds of all pairs of strands.
+ghost use mathlib.Core.Path.{_≡_};
+ghost use lib.ListN.{length};
+ghost use Rattle.bonds.specs.Readable.{Readable};
+ghost use Rattle.run_tables.specs.Tables.{pairEnergy, bondTable};
+use beta_energies::edge_beta_between;
+use sdc2d::Sizes;
+
+// The bond of two numbers below 64, 0.0 where one is no strand.
+fn pair_energy(
+    z: Sizes,
+    strand_glues: &[u32],
+    delta_g: &[f64],
+    entropy: &[f64],
+    north_south: bool,
+    s: usize,
+    t: usize,
+) -> f64
+    requires { ⌜ Readable (z .strands) (z .glues) (now «strand_glues») (now «delta_g») (now entropy) ⌝ }
+    ensures { λ r. ⌜ r ≡ pairEnergy z (now («strand_glues» .entry)) (now («delta_g» .entry)) (now (entropy .entry)) «north_south» s t ⌝ }
+{
+    if s < z.strands {
+        if t < z.strands {
+            return edge_beta_between(z, strand_glues, delta_g, entropy, north_south, s, t);
+        }
+    }
+    0.0
+}
+
+// Writes the bonds of all pairs, s and t at place s · 64 + t.
+pub fn fill_bonds(
+    z: Sizes,
+    strand_glues: &[u32],
+    delta_g: &[f64],
+    entropy: &[f64],
+    north_south: bool,
+    table: &mut [f64],
+)
+    requires { ⌜ Readable (z .strands) (z .glues) (now «strand_glues») (now «delta_g») (now entropy) ⌝ }
+    requires { ⌜ length (now table) ≡ 4096 ⌝ }
+    ensures { λ _. ⌜ now (table .exit) ≡ bondTable z (now («strand_glues» .entry)) (now («delta_g» .entry)) (now (entropy .entry)) «north_south» ⌝ }
+{
+    let mut i = 0;
+    while i < table.len() {
+        table[i] = pair_energy(
+            z,
+            strand_glues,
+            delta_g,
+            entropy,
+            north_south,
+            i / 64,
+            i % 64,
+        );
+        i += 1;
+    }
+}

@@ -1,0 +1,20 @@
+// Sets in scan order.
+ghost use mathlib.Core.Path.{_≡_};
+ghost use Prim.Native.Nat.{_*_, _≤_};
+ghost use lib.ListN.{length, take};
+ghost use Rattle.run_tables.specs.Tables.{scanSets};
+use legal::bay_at;
+
+// Writes sets that stand row by row to the front of a table, in scan order.
+pub fn fill_scan(rows: usize, cols: usize, sets: &[u64], scan: &mut [u64])
+    requires { ⌜ (rows ≤ 32) × (cols ≤ 32) ⌝ }
+    requires { ⌜ (rows * cols ≤ length (now sets)) × (rows * cols ≤ length (now scan)) ⌝ }
+    ensures { λ _. ⌜ take (rows * cols) (now (scan .exit)) ≡ scanSets rows cols (now (sets .entry)) ⌝ }
+{
+    let bays = rows * cols;
+    let mut k = 0;
+    while k < bays {
+        scan[k] = sets[bay_at(rows, cols, k)];
+        k += 1;
+    }
+}
