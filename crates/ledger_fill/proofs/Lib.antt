@@ -2,3 +2,5 @@ pub mod Reading
 pub mod Leaving
 pub mod Over
 pub mod Lining
+pub mod Beside
+pub mod Blocking

@@ -2,10 +2,11 @@
 use mathlib.Core.Bool.{cond, not}
 use mathlib.Core.List.{List, _++_}
 use Prim.Native.Nat.{ℕ, _+_, _-_, _%_, _≤_, _<_}
-use lib.Dec.{eqb, leb}
+use lib.Dec.{eqb, leb, ltb}
 use lib.Ieee.{Float, nan, binary64, add}
 use lib.ListN.{length, getD, take, drop}
 use Rattle.floats.specs.declared.Choice.{Choice}
+use Rattle.sets.specs.Set.{has, nextOf}
 use Rattle.ledger_rows.specs.Blocks.{tab, flat, heldAt, rowFrom}
 use Rattle.ledger_fill.specs.declared.rows.Own.{Own}
 use Rattle.ledger_fill.specs.declared.bays.Bay.{Bay}
@@ -52,6 +53,10 @@ bayLine part b row major side before q u =
 -- the strand on the previous bay in rows q: it is the fastest that stays
 abbrev pub besideAt : (previous q : ℕ) → ℕ
 besideAt previous q = getD (strandsOf previous) (q % length (strandsOf previous)) 0
+
+-- the strand behind u in a set, and the first one behind the last
+abbrev pub followingIn : (set u : ℕ) → ℕ
+followingIn set u = cond (ltb (nextOf (has set) (u + 1) 64) 64) (nextOf (has set) (u + 1) 64) (nextOf (has set) 0 64)
 
 -- one part of the rows of the bay's block
 abbrev pub bayBlock : {A : Type 0} → (Choice → A) → Bay → (row major side before : List Float) → List A

@@ -1,9 +1,9 @@
 // One bay's block, written line by line: for each row q of what stays, the rows of the bay's strands.
 ghost use mathlib.Core.Path.{_≡_};
-ghost use Prim.Native.Nat.{_+_, _-_, _≤_, _<_};
-ghost use lib.ListN.{length, take, drop};
+ghost use Prim.Native.Nat.{_*_, _≤_, _<_};
+ghost use lib.ListN.{length};
 ghost use Rattle.ledger_fill.specs.Handed.{strandsOf};
-ghost use Rattle.ledger_fill.specs.Bays.{Writable, over, part, ownOf, bayLine};
+ghost use Rattle.ledger_fill.specs.Bays.{Writable, over, part, ownOf, bayLine, bayBlock, followingIn};
 use crate::rows::Own;
 use crate::rows::bond_at;
 use crate::rows::row;
@@ -61,5 +61,54 @@ fn put_line(
         notes[j] = best.who as u8;
         t = sets::next(bay.set, t + 1);
         j += 1;
+    }
+}
+
+// The strand of the set behind u, and the first one behind the last.
+fn following(set: u64, u: u32) -> u32
+    requires { ⌜ u < 64 ⌝ }
+    ensures { λ r. ⌜ r ≡ followingIn set u ⌝ }
+{
+    let v = sets::next(set, u + 1);
+    if v < 64 { v } else { sets::next(set, 0) }
+}
+
+// Writes the bay's block at `end`, behind the block before, which begins at `from`.
+pub fn put_bay(
+    bay: Bay,
+    here: &[f64],
+    major: &[f64; 4096],
+    side: &[f64; 4096],
+    from: usize,
+    end: usize,
+    energies: &mut [f64],
+    notes: &mut [u8],
+)
+    requires { ⌜ (0 < length (strandsOf (bay .previous))) × (64 ≤ length (now here)) ⌝ }
+    requires { ⌜ Writable bay from end end (bay .width * length (strandsOf (bay .set))) (length (now energies)) (length (now notes)) ⌝ }
+    ensures { λ _. ⌜ now (energies .exit) ≡ over (now (energies .entry)) end (bayBlock (λ c. c .energy) bay (now (here .entry)) (now (major .entry)) (now (side .entry)) (part from end (now (energies .entry)))) ⌝ }
+    ensures { λ _. ⌜ now (notes .exit) ≡ over (now (notes .entry)) end (bayBlock (λ c. c .who) bay (now (here .entry)) (now (major .entry)) (now (side .entry)) (part from end (now (energies .entry)))) ⌝ }
+{
+    let count = sets::size(bay.set) as usize;
+    let mut u = sets::next(bay.previous, 0);
+    let mut at = end;
+    let mut q = 0;
+    while q < bay.width {
+        put_line(
+            bay,
+            here,
+            major,
+            side,
+            q,
+            u as usize,
+            from,
+            end,
+            at,
+            energies,
+            notes,
+        );
+        u = following(bay.previous, u);
+        at += count;
+        q += 1;
     }
 }
