@@ -4,3 +4,4 @@ pub mod Over
 pub mod Lining
 pub mod Beside
 pub mod Blocking
+pub mod Agrees

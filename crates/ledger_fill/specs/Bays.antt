@@ -62,12 +62,16 @@ followingIn set u = cond (ltb (nextOf (has set) (u + 1) 64) 64) (nextOf (has set
 abbrev pub bayBlock : {A : Type 0} → (Choice → A) → Bay → (row major side before : List Float) → List A
 bayBlock part b row major side before = flat (λ q. bayLine part b row major side before q (besideAt (b .previous) q)) (b .width)
 
--- bay k of the run: its set, the set that leaves (strand 0 alone while none does), the set before it, and which neighbours there are
+-- the set that leaves as bay k comes: strand 0 alone while none does
+abbrev pub leavingOf : (window : ℕ) → (sets : List ℕ) → (k : ℕ) → ℕ
+leavingOf window sets k = cond (leb window k) (getD sets (k - window) 0) 1
+
+-- bay k of the run: its set, the set that leaves, the set before it, and which neighbours there are
 abbrev pub bayOf : (window : ℕ) → (sets : List ℕ) → (k width : ℕ) → Bay
 bayOf window sets k width =
     record {
       set = getD sets k 0;
-      leaving = cond (leb window k) (getD sets (k - window) 0) 1;
+      leaving = leavingOf window sets k;
       previous = getD sets (k - 1) 0;
       width = width;
       below = leb window k;

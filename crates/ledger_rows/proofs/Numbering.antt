@@ -2,7 +2,7 @@
 -- Assumes nothing.
 use mathlib.Core.Path.{_≡_, refl, sym, ap, ap₂, _∙_}
 use mathlib.Core.List.{List, [], _∷_}
-use Prim.Native.Nat.{ℕ, zero, suc, _+_, _*_, _/_, _%_, _<_, _≤_}
+use Prim.Native.Nat.{ℕ, zero, suc, _+_, _-_, _*_, _/_, _%_, _<_, _≤_}
 use native.Mathlib.Nat.{mod-lt, div-lt-iff-lt-mul, div-add-mod', add-mul, mul-assoc, mul-one, mul-comm, add-assoc}
 use native.Mathlib.Omega.{arith}
 use lib.Arith.{digits-lt, digits-div, digits-mod}
@@ -53,6 +53,19 @@ module _ (z : Scan) where
   size-leavers j zero = omega arith
   size-leavers zero (suc k) = ap (λ w. w * length (z .strands k)) (size-none k) ∙ mul-comm 1 (length (z .strands k))
   size-leavers (suc j) (suc k) = ap (λ w. w * length (z .strands k)) (size-leavers j k) ∙ mul-assoc (length (leavers z j k)) (size z k j) (length (z .strands k))
+
+  -- which bay leaves: none while they are few, then the j-th before the last
+  pub leavers-early : (j k : ℕ) → k ≤ j → leavers z j k ≡ 0 ∷ []
+  unfolding leavers
+  leavers-early j zero h = refl
+  leavers-early zero (suc k) h = absurd (omega arith)
+  leavers-early (suc j) (suc k) h = leavers-early j k (omega arith)
+
+  pub leavers-late : (j k : ℕ) → j < k → leavers z j k ≡ z .strands (k - suc j)
+  unfolding leavers
+  leavers-late j zero h = absurd (omega arith)
+  leavers-late zero (suc k) h = ap (z .strands) (omega arith)
+  leavers-late (suc j) (suc k) h = leavers-late j k (omega arith) ∙ ap (z .strands) (omega arith)
 
   -- where each bay has a strand, so has the one that leaves
   pub leavers-some : (j k : ℕ) → Filled z k → 0 < length (leavers z j k)
