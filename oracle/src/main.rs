@@ -21,6 +21,7 @@ mod state;
 mod system;
 
 mod cases;
+mod layouts;
 mod names;
 mod reach;
 mod sequences;
@@ -46,6 +47,7 @@ const CALLS: &[(&str, Call)] = &[
     ("seeds_by_name", names::seeds_by_name),
     ("allowed_tiles", systems::allowed_tiles),
     ("bonds", systems::bonds),
+    ("state_g", layouts::state_g),
 ];
 
 /// The answer line of a case. A panic counts as the Rust's only while the question runs.

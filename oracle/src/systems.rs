@@ -20,7 +20,7 @@ const LONGEST_MATRIX: u64 = 66_049;
 type Lists = Vec<Vec<Vec<u32>>>;
 
 /// A strand's or a glue's number, a seed's row or column.
-fn small(value: &[u8]) -> Option<u32> {
+pub fn small(value: &[u8]) -> Option<u32> {
     number(value)?.try_into().ok()
 }
 
@@ -29,27 +29,27 @@ fn read_only_if(fits: bool) -> Result<(), Stop> {
 }
 
 /// The Rust can be handed a case only where this holds.
-fn handed_only_if(fits: bool) -> Result<(), Stop> {
+pub fn handed_only_if(fits: bool) -> Result<(), Stop> {
     fits.then_some(()).ok_or(Stop::NoSuchCall)
 }
 
 /// A system as a case has it, both matrices filled.
-struct Lent {
+pub struct Lent {
     rows: u64,
-    cols: u64,
+    pub cols: u64,
     strands: u64,
-    glues: u64,
+    pub glues: u64,
     kelvin: f64,
-    strand_glues: Vec<u32>,
-    scaffold: Vec<u32>,
+    pub strand_glues: Vec<u32>,
+    pub scaffold: Vec<u32>,
     delta_g: Vec<f64>,
     entropy: Vec<f64>,
-    logs: Vec<f64>,
+    pub logs: Vec<f64>,
     seeds: Vec<u32>,
 }
 
 impl Lent {
-    fn read(case: &Case) -> Result<Self, Stop> {
+    pub fn read(case: &Case) -> Result<Self, Stop> {
         let (rows, cols) = (case.number("rows")?, case.number("cols")?);
         let (strands, glues) = (case.number("strands")?, case.number("glues")?);
         let (cells, energies) = (case.list("cells", number)?, case.list("energies", float)?);
@@ -76,7 +76,7 @@ impl Lent {
 
     /// The Rust can be handed a system that is small enough to be built and has slices as long as its sizes ask. Strand 0
     /// is always there.
-    fn check(&self) -> Result<(), Stop> {
+    pub fn check(&self) -> Result<(), Stop> {
         handed_only_if((1..=MOST_STRANDS).contains(&self.strands))?;
         handed_only_if(self.rows <= LONGEST_SIDE && self.cols <= LONGEST_SIDE)?;
         handed_only_if(self.strand_glues.len() as u64 == self.strands * 5)?;
@@ -92,10 +92,10 @@ impl Lent {
         (0..rows).flat_map(|row| (0..cols).map(move |col| (row, col))).collect()
     }
 
-    /// The Rust's system. Each strand has a concentration of 1, because neither legal strands nor bonds depend on it.
+    /// The Rust's system. Each strand has a concentration of 1: neither legal strands nor bonds depend on it.
     /// Seeds go in by the names that the Rust shows for nameless strands, so it tests them and lets later ones replace
     /// earlier ones itself. The temperature goes in last: this builds the caches anew.
-    fn square(&self) -> SDC2DSquare {
+    pub fn square(&self) -> SDC2DSquare {
         let (rows, cols, glues) = (self.rows as usize, self.cols as usize, self.glues as usize);
         let name = |tile: u32| tile.checked_sub(1).map_or("null".to_string(), |place| place.to_string());
         let mut s = SDC2DSquare::from_params(SDC2DParams {
@@ -125,7 +125,7 @@ impl Lent {
 }
 
 /// A concentration whose logarithm, as the Rust takes it, has these very bits; where there is none the Rust cannot be
-/// asked. For the calls to come that depend on it, so that they need no other field than `logs`.
+/// asked. So calls that depend on it need no other field than `logs`.
 pub fn concentration(log: f64) -> Result<Molar, Stop> {
     let near = log.exp().to_bits();
     let around = (0..4).flat_map(|step| [near.saturating_add(step), near.saturating_sub(step)]);
