@@ -5,3 +5,4 @@ pub mod Lining
 pub mod Beside
 pub mod Blocking
 pub mod Agrees
+pub mod Sizes

@@ -1,0 +1,129 @@
+-- How many rows each block has, as the code goes from bay to bay: the width by division, the rows by a product that stays small. Assumes nothing.
+use mathlib.Core.Path.{_≡_, refl, sym, ap, ap₂, _∙_, subst}
+use mathlib.Core.Bool.{cond}
+use mathlib.Core.List.{List}
+use Prim.Native.Nat.{ℕ, zero, suc, _+_, _-_, _*_, _/_, _≤_, _<_}
+use native.Mathlib.Nat.{mul-div-cancel-left, mul-le-mul, le-of-suc-le-suc}
+use native.Mathlib.Numerals.{add-one}
+use native.Mathlib.Decide.{le-ind}
+use native.Mathlib.Omega.{arith}
+use lib.Dec.{leb}
+use lib.Ieee.{Float}
+use lib.ListN.{length, getD}
+use borrow.Author.Tests.{le-leb, lt-leb}
+use Rattle.sets.specs.Set.{has}
+use Rattle.sets.proofs.Members.{length-le}
+use Rattle.ledger_rows.specs.Scan.{Scan, Filled}
+use Rattle.ledger_rows.specs.Blocks.{size, leavers, need}
+use Rattle.ledger_rows.proofs.Numbering.{size-more, size-leavers, leavers-some}
+use Rattle.ledger_fill.specs.declared.bays.Bay.{Bay}
+use Rattle.ledger_fill.specs.Handed.{strandsOf, scanOf, setScan, capped}
+use Rattle.ledger_fill.specs.Bays.{leavingOf, bayOf}
+use Rattle.ledger_fill.proofs.Agrees.{leaving-is}
+
+-- a part of a number is no larger
+quotient-small : (n m limit : ℕ) → 0 < n → n * m ≤ limit → m ≤ limit
+quotient-small n m limit pos h = omega (arith, h, mul-le-mul {n₁ = 1} {m₁ = m} {n₂ = n} {m₂ = m} pos (omega arith))
+
+-- ---- the sizes of any scan
+module _ (z : Scan) where
+  pub need-more : (k : ℕ) → need z (k + 1) ≡ need z k + size z (k + 1) (suc (z .kept))
+  unfolding need
+  need-more k = rw (add-one k)
+
+  pub need-none : need z 0 ≡ 0
+  unfolding need
+  need-none = refl
+
+  pub size-first : (j : ℕ) → size z 0 j ≡ 1
+  unfolding size
+  size-first j = refl
+
+  pub need-mono : (k n : ℕ) → k ≤ n → need z k ≤ need z n
+  need-mono k n h = le-ind (λ m. need z k ≤ need z m) (omega arith) (λ m l old. omega (arith, need-more m, ap (need z) (add-one m))) n h
+
+-- a set has at most 64 strands, so a product of a small width and a count is small
+pub product-small : (width set : ℕ) → width ≤ 1048576 → width * length (strandsOf set) ≤ 67108864
+product-small width set h = omega (arith, mul-le-mul {n₁ = width} {m₁ = length (strandsOf set)} {n₂ = 1048576} {m₂ = 64} h (length-le (has set) 64))
+
+-- ---- the need, capped
+pub capped-in : (n : ℕ) → n ≤ 1048576 → n ≡ capped n
+capped-in n h = sym (ap (λ b. cond b n 1048577) (le-leb n 1048576 h))
+
+pub capped-out : (n : ℕ) → 1048576 < n → 1048577 ≡ capped n
+capped-out n h = sym (ap (λ b. cond b n 1048577) (lt-leb n 1048576 h))
+
+-- ---- the sizes that the code goes through
+module _ (window : ℕ) (sets : List ℕ) (rows : ℕ → List Float) (major side : List Float) where
+  abbrev z : Scan
+  z = scanOf window sets rows major side
+
+  -- what is known of the bay that comes, behind a block with so many rows
+  pub record Coming (k before : ℕ) : Type 0 where
+    pub some-leave : 0 < length (strandsOf (leavingOf window sets k))
+    pub width-is : before / length (strandsOf (leavingOf window sets k)) ≡ size z k (window - 1)
+    pub small : size z k (window - 1) ≤ 1048576
+    pub rows-are : size z k (window - 1) * length (strandsOf (getD sets k 0)) ≡ size z (k + 1) (suc (window - 1))
+
+  -- ---- the rows of the first k of n bays are counted, and none is past the limit
+  pub record Counting (n k before used : ℕ) : Type 0 where
+    pub within : k ≤ n
+    pub rows-are : before ≡ size z k (suc (window - 1))
+    pub used-is : used ≡ need z k
+    pub few-rows : before ≤ 1048576
+    pub few : used ≤ 1048576
+
+  module _ (pos : 0 < window) where
+    pub leaves-some : (k n : ℕ) → Filled z n → k < n → 0 < length (strandsOf (leavingOf window sets k))
+    leaves-some k n some h = subst (λ l. 0 < length l) (sym (leaving-is window sets rows major side k pos)) (leavers-some z (window - 1) k (λ i b. some i (omega arith)))
+
+    pub coming : (k n before : ℕ) → Filled z n → k < n → before ≡ size z k (suc (window - 1)) → before ≤ 1048576 → Coming k before
+    coming k n before some h e small =
+        let leave = leaves-some k n some h in
+        let count = length (strandsOf (leavingOf window sets k)) in
+        let split : before ≡ count * size z k (window - 1) =
+        e ∙ size-leavers z (window - 1) k ∙ ap (λ l. length l * size z k (window - 1)) (sym (leaving-is window sets rows major side k pos)) in
+        record {
+          some-leave = leave;
+          width-is = ap (λ i. i / count) split ∙ mul-div-cancel-left (size z k (window - 1)) leave;
+          small = quotient-small count (size z k (window - 1)) 1048576 leave (subst (λ i. i ≤ 1048576) split small);
+          rows-are = sym (size-more z k (window - 1)) ∙ ap (λ i. size z i (suc (window - 1))) (sym (add-one k));
+        }
+
+    module _ (k before : ℕ) (c : Coming k before) (b : Bay) (e : b ≡ bayOf window sets k (before / length (strandsOf (leavingOf window sets k)))) where
+      pub bay-width : b .width ≡ size z k (window - 1)
+      bay-width = ap (λ (b : Bay). b .width) e ∙ c .width-is
+
+      pub bay-is : b ≡ bayOf window sets k (size z k (window - 1))
+      bay-is = e ∙ ap (bayOf window sets k) (c .width-is)
+
+      pub bay-small : b .width ≤ 1048576
+      bay-small = subst (λ w. w ≤ 1048576) (sym bay-width) (c .small)
+
+      pub bay-rows : (r : ℕ) → r ≡ b .width * length (strandsOf (b .set)) → r ≡ size z (k + 1) (suc (window - 1))
+      bay-rows r f = f ∙ ap₂ (λ w s. w * length (strandsOf s)) bay-width (ap (λ (b : Bay). b .set) e) ∙ c .rows-are
+
+      pub rows-small : (r : ℕ) → r ≡ b .width * length (strandsOf (b .set)) → r ≤ 67108864
+      rows-small r f = subst (λ i. i ≤ 67108864) (sym f) (product-small (b .width) (b .set) bay-small)
+
+    pub counting-starts : (n : ℕ) → Counting n 0 1 0
+    counting-starts n = record { within = omega arith; rows-are = sym (size-first z (suc (window - 1))); used-is = sym (need-none z); few-rows = omega arith; few = omega arith }
+
+    module _ (n k before used : ℕ) (some : Filled z n) (h : k < n) (l : Counting n k before used) where
+      pub counting-comes : Coming k before
+      counting-comes = coming k n before some h (l .rows-are) (l .few-rows)
+
+      pub counted : (r : ℕ) → r ≡ size z (k + 1) (suc (window - 1)) → used + r ≡ need z (k + 1)
+      counted r e = ap₂ (λ a b. a + b) (l .used-is) e ∙ sym (need-more z k)
+
+      pub counting-turns : (r : ℕ) → r ≡ size z (k + 1) (suc (window - 1)) → used + r ≤ 1048576 → Counting n (k + 1) r (used + r)
+      counting-turns r e few = record { within = omega arith; rows-are = e; used-is = counted r e; few-rows = omega arith; few = few }
+
+      -- one block too many is too many for all
+      pub too-many : (r : ℕ) → r ≡ size z (k + 1) (suc (window - 1)) → 1048576 < used + r → 1048577 ≡ capped (need z n)
+      too-many r e large = capped-out (need z n) (omega (arith, counted r e, need-mono z (k + 1) n (omega arith)))
+
+    pub counting-ends : (n k before used : ℕ) → Counting n k before used → n ≤ k → used ≡ capped (need z n)
+    counting-ends n k before used l h =
+        let all : used ≡ need z n = l .used-is ∙ ap (need z) (omega (arith, l .within)) in
+        all ∙ capped-in (need z n) (omega (arith, l .few))
