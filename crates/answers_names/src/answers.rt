@@ -1,23 +1,13 @@
 // Answer lines: a refusal with what became of the lent tables, else the value.
 use crate::tables::all_numbers;
-use crate::tables::put_coded;
-use crate::tables::put_numbers;
-use crate::tables::put_small_numbers;
+use answer_lines::put_coded;
+use answer_lines::put_numbers;
+use answer_lines::put_small_numbers;
+use answer_lines::put_text;
 use answer_lines::put_value;
-use answer_lines::refused;
-use case_text::put_text;
+use answer_lines::refused_with_tables;
 use units::Check;
 use units::CountAnswer;
-use units::Refusal;
-
-// A refusal, and whether the lent tables are as they were.
-pub(crate) fn refused_with_tables(out: &mut [u8], r: Refusal, kept: bool) -> usize {
-    let at = refused(out, r);
-    if kept {
-        return put_text(out, at, b" kept");
-    }
-    put_text(out, at, b" changed")
-}
 
 pub(crate) fn base(out: &mut [u8], base: &[u8], is_from: bool) -> usize {
     let at = put_coded(out, 0, b"base ", base);

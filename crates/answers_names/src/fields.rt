@@ -1,14 +1,14 @@
 // Fields: a missing one is unreadable, unless the call has a value for it.
 ghost use Prim.Native.Nat.{_≤_};
-use case_text::Count;
+use case_lists::Count;
+use case_lists::bytes_into;
+use case_lists::floats_into;
+use case_lists::numbers_into;
+use case_lists::text_into;
 use case_text::Number;
-use case_text::bytes_into;
 use case_text::field;
-use case_text::floats_into;
 use case_text::has_field;
 use case_text::number;
-use case_text::numbers_into;
-use case_text::text_into;
 
 pub(crate) fn text_field(line: &[u8], key: &[u8], room: &mut [u8]) -> Count {
     if !has_field(line, key) {

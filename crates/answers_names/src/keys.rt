@@ -1,5 +1,4 @@
 // The call on energy keys: the matrices are the program's, filled with 7.0 as far as the case lends them.
-use crate::answers::refused_with_tables;
 use crate::fields::bytes_field;
 use crate::fields::floats_field;
 use crate::fields::number_field;
@@ -10,14 +9,15 @@ use crate::fields::text_field;
 use crate::tables::all_floats;
 use crate::tables::fill_floats;
 use answer_lines::put_floats;
+use answer_lines::put_text;
 use answer_lines::put_value;
+use answer_lines::refused_with_tables;
 use answer_lines::unreadable;
-use case_text::Count;
+use case_lists::Count;
 use case_text::Number;
 use case_text::first_bytes;
 use case_text::first_floats;
 use case_text::first_numbers;
-use case_text::put_text;
 use units::Check;
 
 // One cell of row i and column j, unless both floats are 0.0.

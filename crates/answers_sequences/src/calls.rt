@@ -1,12 +1,12 @@
 // The calls: fields are read, the library is asked, and the answer is put down.
 use crate::answers;
-use case_text::Count;
+use case_lists::Count;
+use case_lists::text_into;
 use case_text::FloatValue;
 use case_text::field;
 use case_text::first_bytes;
 use case_text::float;
 use case_text::has_field;
-use case_text::text_into;
 
 // The text of a field, in `room`.
 fn text_field(line: &[u8], key: &[u8], room: &mut [u8]) -> Count {

@@ -2,10 +2,10 @@
 mod answers;
 mod calls;
 
+use answer_lines::put_text;
 use case_text::call_name;
 use case_text::is_case;
 use case_text::line_end;
-use case_text::put_text;
 use case_text::same;
 use libc::STDIN_FILENO;
 use libc::STDOUT_FILENO;

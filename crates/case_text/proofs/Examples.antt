@@ -3,16 +3,12 @@ use Prim.Native.Nat.{ℕ, _^_}
 use mathlib.Core.Bool.{true, false}
 use mathlib.Core.List.{List, [], _∷_, _++_}
 use mathlib.Core.Path.{_≡_, refl}
-use lib.Ieee.{nan, fin, ofBits, isNan}
-use lib.IntN.{pos, negsuc}
+use lib.Ieee.{nan, fin, ofBits}
+use lib.IntN.{pos}
 use lib.ListN.{replicate}
 use Rattle.case_text.specs.Places.{before, longer, parts}
 use Rattle.case_text.specs.Fields.{sameBytes, callName, rest, words, hasKey, valueIn, anyField, firstField}
 use Rattle.case_text.specs.Digits.{digit, allDigits, worth, isNumber, numberOf, isFloat, floatIn, floatOf}
-use Rattle.case_text.specs.Text.{signs, isPlain, isSign, byteOf}
-use Rattle.case_text.specs.Lists.{items, all, values, counted, front}
-use Rattle.case_text.specs.Answers.{decimal, numberText, signedText, floatText}
-use Rattle.case_text.specs.declared.kinds.Count.{Count}
 use Rattle.case_text.specs.declared.kinds.FloatValue.{FloatValue}
 use Rattle.case_text.specs.declared.kinds.Number.{Number}
 
@@ -57,30 +53,3 @@ one = refl
 a-nan : floatOf (55 ∷ 102 ∷ 102 ∷ replicate 13 49) ≡ FloatValue.Of nan
 unfolding digit allDigits worth isFloat floatIn floatOf ofBits
 a-nan = refl
-
--- `a%20` is two bytes; `%61` for `a` is refused, and nothing is written
-space : values isSign byteOf (signs (97 ∷ 37 ∷ 50 ∷ 48 ∷ [])) ≡ 97 ∷ 32 ∷ []
-unfolding digit allDigits worth isPlain isSign byteOf signs values
-space = refl
-
-one-way : counted isSign (signs (37 ∷ 54 ∷ 49 ∷ [])) 9 ≡ Count.Unreadable
-unfolding digit allDigits worth isPlain isSign signs all counted
-one-way = refl
-
--- `1,2` in a slice of three, of which the last stays
-two-of-three : front (values (isNumber (2 ^ 32)) (worth 10 0) (items (49 ∷ 44 ∷ 50 ∷ []))) (7 ∷ 8 ∷ 9 ∷ []) ≡ 1 ∷ 2 ∷ 9 ∷ []
-unfolding longer parts digit allDigits worth isNumber items values front
-two-of-three = refl
-
--- numbers as text
-zero-text : numberText 0 ≡ 48 ∷ []
-unfolding decimal numberText
-zero-text = refl
-
-minus-ten : signedText (negsuc 9) ≡ 45 ∷ 49 ∷ 48 ∷ []
-unfolding decimal numberText signedText
-minus-ten = refl
-
-nan-text : floatText nan ≡ 110 ∷ 97 ∷ 110 ∷ []
-unfolding isNan floatText
-nan-text = refl

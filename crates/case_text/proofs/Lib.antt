@@ -1,10 +1,6 @@
 pub mod Cuts
 pub mod Examples
-pub mod Filling
-pub mod Putting
 pub mod Sameness
-pub mod Signs
-pub mod Spelling
 pub mod Taking
 pub mod Words
 pub mod Worth

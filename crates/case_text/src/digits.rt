@@ -33,7 +33,7 @@ pub fn float(value: &[u8]) -> FloatValue
 }
 
 // What digits of a base are worth together, the highest first.
-pub(crate) fn whole(value: &[u8], base: u64) -> Number
+pub fn whole(value: &[u8], base: u64) -> Number
     requires { ⌜ (1 < base) × (base ≤ 16) ⌝ }
     ensures { λ r. ⌜ r ≡ wholeOf base (now (value .entry)) ⌝ }
 {

@@ -12,9 +12,3 @@ pub enum FloatValue {
     Of(f64),
     Unreadable,
 }
-
-// How many bytes or items were written to the front of a lent slice.
-pub enum Count {
-    Of(usize),
-    Unreadable,
-}

@@ -1,0 +1,5 @@
+pub mod Examples
+pub mod Listing
+pub mod Putting
+pub mod Refusing
+pub mod Spelling
