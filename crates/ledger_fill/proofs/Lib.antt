@@ -6,3 +6,4 @@ pub mod Beside
 pub mod Blocking
 pub mod Agrees
 pub mod Sizes
+pub mod Filling
