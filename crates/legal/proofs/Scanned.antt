@@ -6,7 +6,7 @@ use native.Mathlib.Nat.{mod-lt, div-lt-iff-lt-mul, mul-comm, div-add-mod'}
 use native.Mathlib.Omega.{arith}
 use lib.Arith.{digits-lt, digits-div, digits-mod}
 use lib.Dec.{leb}
-use Rattle.legal.specs.Scan.{bayAt}
+use Rattle.legal.specs.Scan.{bayAt, numberAt}
 
 -- a grid with a bay has a row and a column
 pub some-row : (rows cols k : ℕ) → k < rows * cols → 0 < rows
@@ -27,10 +27,7 @@ bay-inside rows cols k h = either (leb cols rows)
     either true = h
     either false = digits-lt (mod-lt k (some-row rows cols k h)) (column rows cols k h)
 
--- the number of a bay in the scan
-abbrev pub numberAt : (rows cols bay : ℕ) → ℕ
-numberAt rows cols bay = cond (leb cols rows) bay (bay % cols * rows + bay / cols)
-
+-- the number of a bay in the scan, and the bay again
 pub number-inside : (rows cols bay : ℕ) → bay < rows * cols → numberAt rows cols bay < rows * cols
 number-inside rows cols bay h = either (leb cols rows)
   where

@@ -1,6 +1,6 @@
--- What a run works out once: sets in scan order, the bonds of all pairs of strands, and the energies of a bay's strands. A number below 64 that is
+-- What a run works out once: sets in scan order, the bonds of all pairs of strands, and the energies of each bay's strands. A number below 64 that is
 -- no strand of the system has 0.0; no sum reads it. Assumes nothing.
-use Prim.Native.Nat.{ℕ, _*_, _/_, _%_, _<_}
+use Prim.Native.Nat.{ℕ, _*_, _/_, _%_, _≤_, _<_}
 use mathlib.Core.Path.{_≡_}
 use mathlib.Core.Bool.{Bool, cond, _&&_}
 use mathlib.Core.List.{List}
@@ -39,12 +39,15 @@ abbrev pub siteEnergy : Sizes → (strandGlues scaffold : List ℕ) → (deltaG 
 siteEnergy z strandGlues scaffold deltaG entropy logs bay t =
     cond (ltb t (z .strands)) (bayEnergy z strandGlues scaffold deltaG entropy logs bay t) nothing
 
--- of all of them
-abbrev pub bayRow : Sizes → (strandGlues scaffold : List ℕ) → (deltaG entropy logs : List Float) → (bay : ℕ) → List Float
-bayRow z strandGlues scaffold deltaG entropy logs bay = tab (siteEnergy z strandGlues scaffold deltaG entropy logs bay) 64
+-- of all bays in scan order: number t on bay k at place k · 64 + t
+abbrev pub siteTable : Sizes → (strandGlues scaffold : List ℕ) → (deltaG entropy logs : List Float) → List Float
+siteTable z strandGlues scaffold deltaG entropy logs =
+    tab (λ i. siteEnergy z strandGlues scaffold deltaG entropy logs (bayAt (z .rows) (z .cols) (i / 64)) (i % 64)) (z .rows * z .cols * 64)
 
--- what is asked of a bay: it lies on the grid, its glue is below the count, and each strand has a logarithm
-pub record Stocked (z : Sizes) (scaffold : List ℕ) (logs : List Float) (bay : ℕ) : Type 0 where
-  pub inside : bay < length scaffold
-  pub glue : scaffoldGlue scaffold bay < z .glues
+-- what is asked of the bays: one glue each, below the count, on a grid of at most 32 by 32, and a logarithm for each strand
+pub record Stocked (z : Sizes) (scaffold : List ℕ) (logs : List Float) : Type 0 where
+  pub few-rows : z .rows ≤ 32
+  pub few-cols : z .cols ≤ 32
+  pub bays : length scaffold ≡ z .rows * z .cols
+  pub glues : (bay : ℕ) → bay < length scaffold → scaffoldGlue scaffold bay < z .glues
   pub each-strand : length logs ≡ z .strands

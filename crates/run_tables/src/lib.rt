@@ -1,8 +1,8 @@
-// The tables that a run works out once: sets in scan order, the bonds of all pairs of strands, the energies of a bay's strands.
+// The tables that a run works out once: sets in scan order, the bonds of all pairs of strands, the energies of each bay's strands.
 mod bonds_of;
 mod order;
 mod sites;
 
 pub use bonds_of::fill_bonds;
 pub use order::fill_scan;
-pub use sites::fill_row;
+pub use sites::fill_sites;

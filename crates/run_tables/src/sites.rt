@@ -1,9 +1,11 @@
-// The energies of a bay's strands.
+// The energies of each bay's strands.
 ghost use mathlib.Core.Path.{_≡_};
-ghost use lib.ListN.{length};
+ghost use Prim.Native.Nat.{_*_, _≤_, _<_};
+ghost use lib.ListN.{length, take};
 ghost use Rattle.bonds.specs.Readable.{Readable};
-ghost use Rattle.run_tables.specs.Tables.{siteEnergy, bayRow, Stocked};
+ghost use Rattle.run_tables.specs.Tables.{siteEnergy, siteTable, Stocked};
 use beta_energies::site_beta_energy;
+use legal::bay_at;
 use sdc2d::Sizes;
 
 // The energy of a bay with a number below 64, 0.0 where it is no strand.
@@ -18,7 +20,8 @@ fn site_energy(
     t: usize,
 ) -> f64
     requires { ⌜ Readable (z .strands) (z .glues) (now «strand_glues») (now «delta_g») (now entropy) ⌝ }
-    requires { ⌜ Stocked z (now scaffold) (now logs) bay ⌝ }
+    requires { ⌜ Stocked z (now scaffold) (now logs) ⌝ }
+    requires { ⌜ bay < length (now scaffold) ⌝ }
     ensures { λ r. ⌜ r ≡ siteEnergy z (now («strand_glues» .entry)) (now (scaffold .entry)) (now («delta_g» .entry)) (now (entropy .entry)) (now (logs .entry)) bay t ⌝ }
 {
     if t < z.strands {
@@ -27,25 +30,35 @@ fn site_energy(
     0.0
 }
 
-// Writes the energies of a bay's strands.
-pub fn fill_row(
+// Writes the energies of all bays in scan order to the front of a table, number t on bay k at place k · 64 + t.
+pub fn fill_sites(
     z: Sizes,
     strand_glues: &[u32],
     scaffold: &[u32],
     delta_g: &[f64],
     entropy: &[f64],
     logs: &[f64],
-    bay: usize,
-    row: &mut [f64],
+    sites: &mut [f64],
 )
     requires { ⌜ Readable (z .strands) (z .glues) (now «strand_glues») (now «delta_g») (now entropy) ⌝ }
-    requires { ⌜ Stocked z (now scaffold) (now logs) bay ⌝ }
-    requires { ⌜ length (now row) ≡ 64 ⌝ }
-    ensures { λ _. ⌜ now (row .exit) ≡ bayRow z (now («strand_glues» .entry)) (now (scaffold .entry)) (now («delta_g» .entry)) (now (entropy .entry)) (now (logs .entry)) bay ⌝ }
+    requires { ⌜ Stocked z (now scaffold) (now logs) ⌝ }
+    requires { ⌜ z .rows * z .cols * 64 ≤ length (now sites) ⌝ }
+    ensures { λ _. ⌜ take (z .rows * z .cols * 64) (now (sites .exit)) ≡ siteTable z (now («strand_glues» .entry)) (now (scaffold .entry)) (now («delta_g» .entry)) (now (entropy .entry)) (now (logs .entry)) ⌝ }
 {
-    let mut t = 0;
-    while t < row.len() {
-        row[t] = site_energy(z, strand_glues, scaffold, delta_g, entropy, logs, bay, t);
-        t += 1;
+    let end = z.rows * z.cols * 64;
+    let mut i = 0;
+    while i < end {
+        let bay = bay_at(z.rows, z.cols, i / 64);
+        sites[i] = site_energy(
+            z,
+            strand_glues,
+            scaffold,
+            delta_g,
+            entropy,
+            logs,
+            bay,
+            i % 64,
+        );
+        i += 1;
     }
 }

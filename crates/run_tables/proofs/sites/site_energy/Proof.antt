@@ -10,8 +10,8 @@ use Rattle.run_tables.proofs.sites.site_energy.Tie as tie
 site-beta-energy-requires : tie.Need-site-beta-energy-requires
 site-beta-energy-requires c κs =
     let s = c .before .before .before .before .before .before .before in
-    let bay = s .pre .1 in
-    (s .pre .0, record { inside = bay .inside; glue = bay .glue; strand-below = c .if1 .taken; each-strand = bay .each-strand })
+    let bay = s .pre .1 .0 in
+    (s .pre .0, record { inside = s .pre .1 .1; glue = bay .glues (s .args .bay) (s .pre .1 .1); strand-below = c .if1 .taken; each-strand = bay .each-strand })
 
 returns : tie.Need-returns
 returns c = rw (lt-ltb _ _ (c .before .if1 .taken)) (c .site-beta-energy .ensures)

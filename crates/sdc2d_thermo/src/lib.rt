@@ -1,0 +1,2 @@
+// The least-energy run.
+mod room;
