@@ -16,6 +16,8 @@ use Rattle.ledger_rows.proofs.Rows.{length-energies, length-notes}
 use Rattle.ledger_rows.proofs.Tables.{length-energy-table, length-note-table}
 use Rattle.ledger_fill.specs.declared.bays.Bay.{Bay}
 use Rattle.ledger_fill.specs.Handed.{strandsOf, scanOf, setScan, runScan, Fillable}
+use Rattle.ledger_fill.specs.declared.fill.Last.{Last}
+use Rattle.ledger_fill.specs.Last.{lastOf}
 use Rattle.ledger_fill.specs.Bays.{over, part, Writable, leavingOf, bayOf, bayBlock}
 use Rattle.ledger_fill.proofs.Over.{over-none, length-over, over-over}
 use Rattle.ledger_fill.proofs.Agrees.{block-is}
@@ -201,7 +203,11 @@ module _ (window : ℕ) (sets : List ℕ) (bays major side energies₀ : List Fl
             }
 
     pub filling-ends : length sets ≤ k
-        → (energies′ ≡ over energies₀ 0 (energyTable z (length sets))) × (notes′ ≡ over notes₀ 0 (noteTable z (length sets)))
+        → (record { from = from; end = end } ≡ lastOf z (length sets))
+        × ((energies′ ≡ over energies₀ 0 (energyTable z (length sets))) × (notes′ ≡ over notes₀ 0 (noteTable z (length sets))))
     filling-ends h =
         let all : k ≡ length sets = omega (arith, l .counting .within) in
-        (l .energies-are ∙ ap (λ i. over energies₀ 0 (energyTable z i)) all, l .notes-are ∙ ap (λ i. over notes₀ 0 (noteTable z i)) all)
+        let begins : from ≡ need z k - length (energies z k) = omega (arith, l .last, l .counting .used-is) in (
+          ap₂ (λ (a b : ℕ). record { from = a; end = b }) begins (l .counting .used-is) ∙ ap (lastOf z) all,
+          (l .energies-are ∙ ap (λ i. over energies₀ 0 (energyTable z i)) all, l .notes-are ∙ ap (λ i. over notes₀ 0 (noteTable z i)) all),
+        )

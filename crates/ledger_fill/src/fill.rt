@@ -6,6 +6,7 @@ ghost use Rattle.ledger_rows.specs.Scan.{Filled};
 ghost use Rattle.ledger_rows.specs.Blocks.{need, energyTable, noteTable};
 ghost use Rattle.ledger_fill.specs.Handed.{strandsOf, setScan, runScan, Fillable, capped};
 ghost use Rattle.ledger_fill.specs.Bays.{over, leavingOf, bayOf};
+ghost use Rattle.ledger_fill.specs.Last.{lastOf};
 use crate::bays::Bay;
 use crate::bays::put_bay;
 
@@ -72,7 +73,13 @@ pub fn need(window: usize, sets: &[u64]) -> usize
     used
 }
 
-// Writes all blocks from place 0 on, one behind the other. The energies of bay k's strands stand
+// Where the last block stands.
+pub struct Last {
+    pub from: usize,
+    pub end: usize,
+}
+
+// Writes all blocks from place 0 on, one behind the other, and answers where the last one stands. The energies of bay k's strands stand
 // from place 64 · k of `bays` on.
 pub fn fill(
     window: usize,
@@ -82,8 +89,9 @@ pub fn fill(
     side: &[f64; 4096],
     energies: &mut [f64],
     notes: &mut [u8],
-)
+) -> Last
     requires { ⌜ Fillable window (now sets) (now bays) (length (now energies)) (length (now notes)) ⌝ }
+    ensures { λ r. ⌜ r ≡ lastOf (runScan window (now (sets .entry)) (now (bays .entry)) (now (major .entry)) (now (side .entry))) (length (now (sets .entry))) ⌝ }
     ensures { λ _. ⌜ now (energies .exit) ≡ over (now (energies .entry)) 0 (energyTable (runScan window (now (sets .entry)) (now (bays .entry)) (now (major .entry)) (now (side .entry))) (length (now (sets .entry)))) ⌝ }
     ensures { λ _. ⌜ now (notes .exit) ≡ over (now (notes .entry)) 0 (noteTable (runScan window (now (sets .entry)) (now (bays .entry)) (now (major .entry)) (now (side .entry))) (length (now (sets .entry)))) ⌝ }
 {
@@ -110,4 +118,5 @@ pub fn fill(
         end += rows;
         k += 1;
     }
+    Last { from, end }
 }

@@ -1,0 +1,3 @@
+-- What is read out of a filled ledger in code, and the whole run. Assumes nothing.
+pub mod Tracing
+pub mod Run

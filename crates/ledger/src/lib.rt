@@ -1,0 +1,3 @@
+// What is read out of a filled ledger, and the whole run over numbers that it is handed.
+pub mod clear;
+pub mod read;
