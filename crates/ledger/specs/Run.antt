@@ -12,7 +12,7 @@ use Rattle.ledger.specs.Tracing.{inOrder}
 
 -- one where the run is answered, the other where it is refused with 10
 abbrev pub ifAnswered : {A : Type 0} → Scan → ℕ → A → A → A
-ifAnswered z n yes no = cond (lt (inf true) (answer z n)) yes no
+ifAnswered z n answered refused = cond (lt (inf true) (answer z n)) answered refused
 
 -- the energies after a run over n bays: the needed places are written, and are 0.0 after 10
 abbrev pub energiesAfter : Scan → ℕ → List Float → List Float
