@@ -1,41 +1,18 @@
 -- Bonds of glues: a cell of the two matrices at a temperature, in units of R·T. Assumes nothing.
 use Prim.Native.Nat.{ℕ, _+_, _*_, _≤_, _<_}
 use mathlib.Core.Path.{_≡_}
-use mathlib.Core.List.{List, [], _∷_}
+use mathlib.Core.List.{List}
 use lib.Ieee.{Float, nan}
 use lib.ListN.{length, getD}
 use Rattle.units.specs.declared.BaseEnergy.{BaseEnergy}
 use Rattle.units.specs.declared.StrandGlues.{StrandGlues}
+use Rattle.units.specs.Glues.{strandGlues, northOf, eastOf, southOf, westOf, bottomOf}
 use Rattle.units.specs.Kelvin.{energyAt, timesBeta}
 
--- the five glues of a strand
-abbrev pub gluesOf : List ℕ → ℕ → StrandGlues
-gluesOf strandGlues strand =
-    record {
-      glues =
-          getD strandGlues (strand * 5) 0
-          ∷ getD strandGlues (strand * 5 + 1) 0
-          ∷ getD strandGlues (strand * 5 + 2) 0
-          ∷ getD strandGlues (strand * 5 + 3) 0
-          ∷ getD strandGlues (strand * 5 + 4) 0
-          ∷ [];
-    }
-
--- north, east, south, west, bottom
-abbrev pub north : StrandGlues → ℕ
-north s = getD (s .glues) 0 0
-
-abbrev pub east : StrandGlues → ℕ
-east s = getD (s .glues) 1 0
-
-abbrev pub south : StrandGlues → ℕ
-south s = getD (s .glues) 2 0
-
-abbrev pub west : StrandGlues → ℕ
-west s = getD (s .glues) 3 0
-
-abbrev pub bottom : StrandGlues → ℕ
-bottom s = getD (s .glues) 4 0
+-- the five glues of a strand: north, east, south, west, bottom
+abbrev pub gluesOf : (table : List ℕ) → (strand : ℕ) → StrandGlues
+gluesOf table strand =
+    strandGlues (getD table (strand * 5) 0) (getD table (strand * 5 + 1) 0) (getD table (strand * 5 + 2) 0) (getD table (strand * 5 + 3) 0) (getD table (strand * 5 + 4) 0)
 
 -- the glue of a bay
 abbrev pub scaffoldGlue : List ℕ → ℕ → ℕ
@@ -60,10 +37,10 @@ bondOf energy kelvin = timesBeta (energyAt energy kelvin) kelvin
 -- the west strand's east glue to the east strand's west glue; the north strand's south glue to the south strand's north glue;
 -- the bay's glue to the strand's bottom glue: in that index order
 abbrev pub bondWe : (deltaG entropy : List Float) → (glues : ℕ) → Float → (westStrand eastStrand : StrandGlues) → Float
-bondWe deltaG entropy glues kelvin westStrand eastStrand = bondOf (cellOf deltaG entropy glues (east westStrand) (west eastStrand)) kelvin
+bondWe deltaG entropy glues kelvin westStrand eastStrand = bondOf (cellOf deltaG entropy glues (eastOf westStrand) (westOf eastStrand)) kelvin
 
 abbrev pub bondNs : (deltaG entropy : List Float) → (glues : ℕ) → Float → (northStrand southStrand : StrandGlues) → Float
-bondNs deltaG entropy glues kelvin northStrand southStrand = bondOf (cellOf deltaG entropy glues (south northStrand) (north southStrand)) kelvin
+bondNs deltaG entropy glues kelvin northStrand southStrand = bondOf (cellOf deltaG entropy glues (southOf northStrand) (northOf southStrand)) kelvin
 
 abbrev pub bondWithScaffold : (deltaG entropy : List Float) → (glues : ℕ) → Float → (glue : ℕ) → StrandGlues → Float
-bondWithScaffold deltaG entropy glues kelvin glue strand = bondOf (cellOf deltaG entropy glues glue (bottom strand)) kelvin
+bondWithScaffold deltaG entropy glues kelvin glue strand = bondOf (cellOf deltaG entropy glues glue (bottomOf strand)) kelvin

@@ -1,7 +1,8 @@
 // Bonds between glues: two strands side by side, and a strand on the scaffold, in units of R·T.
 ghost use mathlib.Core.Path.{_≡_};
 ghost use Prim.Native.Nat.{_+_, _*_, _≤_, _<_};
-ghost use lib.ListN.{length, getD};
+ghost use lib.ListN.{length};
+ghost use Rattle.units.specs.Glues.{northOf, eastOf, southOf, westOf, bottomOf};
 ghost use Rattle.units.specs.Kelvin.{energyAt};
 ghost use Rattle.bonds.specs.Bonds.{Square, cellOf, bondOf, gluesOf, bondWe, bondNs, bondWithScaffold, scaffoldGlue};
 use units::BaseEnergy;
@@ -67,7 +68,7 @@ pub fn bond_we(
     west: StrandGlues,
     east: StrandGlues,
 ) -> f64
-    requires { ⌜ Square (now «delta_g») (now entropy) glues (getD (west .glues) 1 0) (getD (east .glues) 3 0) ⌝ }
+    requires { ⌜ Square (now «delta_g») (now entropy) glues (eastOf west) (westOf east) ⌝ }
     ensures { λ r. ⌜ r ≡ bondWe (now («delta_g» .entry)) (now (entropy .entry)) glues kelvin west east ⌝ }
 {
     bond(
@@ -85,7 +86,7 @@ pub fn bond_ns(
     north: StrandGlues,
     south: StrandGlues,
 ) -> f64
-    requires { ⌜ Square (now «delta_g») (now entropy) glues (getD (north .glues) 2 0) (getD (south .glues) 0 0) ⌝ }
+    requires { ⌜ Square (now «delta_g») (now entropy) glues (southOf north) (northOf south) ⌝ }
     ensures { λ r. ⌜ r ≡ bondNs (now («delta_g» .entry)) (now (entropy .entry)) glues kelvin north south ⌝ }
 {
     bond(
@@ -103,7 +104,7 @@ pub fn bond_with_scaffold(
     glue: u32,
     strand: StrandGlues,
 ) -> f64
-    requires { ⌜ Square (now «delta_g») (now entropy) glues glue (getD (strand .glues) 4 0) ⌝ }
+    requires { ⌜ Square (now «delta_g») (now entropy) glues glue (bottomOf strand) ⌝ }
     ensures { λ r. ⌜ r ≡ bondWithScaffold (now («delta_g» .entry)) (now (entropy .entry)) glues kelvin glue strand ⌝ }
 {
     bond(cell(delta_g, entropy, glues, glue, strand.glues[4]), kelvin)

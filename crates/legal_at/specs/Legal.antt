@@ -6,8 +6,9 @@ use lib.Dec.{eqb, ltb}
 use lib.Ieee.{Float, ne}
 use Rattle.units.specs.declared.BaseEnergy.{BaseEnergy}
 use Rattle.units.specs.Decimals.{plus}
+use Rattle.units.specs.Glues.{bottomOf}
 use Rattle.sets.specs.Set.{word}
-use Rattle.bonds.specs.Bonds.{cellOf, gluesOf, bottom, scaffoldGlue}
+use Rattle.bonds.specs.Bonds.{cellOf, gluesOf, scaffoldGlue}
 use Rattle.sdc2d.specs.declared.sizes.Sizes.{Sizes}
 use Rattle.sdc2d.specs.System.{System}
 use Rattle.legal_at.specs.declared.seeds.Seed.{Seed}
@@ -32,7 +33,7 @@ isBond energy = ne (energy .dg) (plus 0 1) || ne (energy .ds) (plus 0 1)
 
 -- a strand's bottom glue binds a glue
 abbrev pub binds : (strandGlues : List ℕ) → (deltaG entropy : List Float) → (glues glue strand : ℕ) → Bool
-binds strandGlues deltaG entropy glues glue strand = isBond (cellOf deltaG entropy glues glue (bottom (gluesOf strandGlues strand)))
+binds strandGlues deltaG entropy glues glue strand = isBond (cellOf deltaG entropy glues glue (bottomOf (gluesOf strandGlues strand)))
 
 -- a strand that may lie on an unseeded bay with this glue: 0, and each strand that binds it
 abbrev pub mayLie : (strandGlues : List ℕ) → (deltaG entropy : List Float) → (glues glue strand : ℕ) → Bool

@@ -6,7 +6,8 @@ use native.Mathlib.Omega.{arith}
 use denote.Ref.{now}
 use borrow.Author.Needs.{needs}
 use Rattle.units.specs.declared.StrandGlues.{StrandGlues}
-use Rattle.bonds.specs.Bonds.{cellOf, bottom, gluesOf}
+use Rattle.units.specs.Glues.{bottomOf}
+use Rattle.bonds.specs.Bonds.{cellOf, gluesOf}
 use Rattle.legal_at.specs.Legal.{isBond}
 use Rattle.legal_at.proofs.sets_at.binds.Statement.{statement}
 use Rattle.legal_at.proofs.sets_at.binds.Tie as tie
@@ -38,7 +39,7 @@ returns c =
     let start = c .before .before .before .before .before .before .before in
     c .is-bond .ensures
     ∙ ap isBond (c .before .cell .ensures)
-    ∙ ap (λ (g : StrandGlues). isBond (cellOf (now (start .args .delta-g)) (now (start .args .entropy)) (start .args .glues) (start .args .glue) (bottom g)))
+    ∙ ap (λ (g : StrandGlues). isBond (cellOf (now (start .args .delta-g)) (now (start .args .entropy)) (start .args .glues) (start .args .glue) (bottomOf g)))
     (c .before .before .before .strand-glues-of .ensures)
 
 pub binds-spec : {M : Type 1} → statement M
