@@ -3,3 +3,4 @@ pub mod Answers
 pub mod Unique
 pub mod Decimals
 pub mod Places
+pub mod Sides
