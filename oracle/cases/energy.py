@@ -18,6 +18,8 @@ from systems_faults import NO_LOG, broken, matrix, put, shorter, longer
 from systems_limits import plain
 
 ONE, MINUS_ONE = write_float(1.0), write_float(-1.0)
+# As many cells as a case on systems has at most, so that one reader has room for both.
+MOST_CELLS = 48
 # The smallest number there is, and numbers whose bond, or the sum of two such bonds, is infinite.
 LEAST, MINUS_LEAST, TWICE_LEAST = write_float(5e-324), write_float(-5e-324), write_float(1e-323)
 LARGEST = [write_float(energy) for energy in [LARGE, -LARGE, 1e308, -1e308, 6e307, -6e307, 3e307, -3e307]]
@@ -55,10 +57,10 @@ class EnergyDraw(SystemDraw):
         return [self.between(min(1, last), last) for _ in fields["scaffold"]]
 
     def filled(self, rows, cols, strands, glues, values):
-        """A system with every cell that is read drawn from these values, and its exchanged cell from them too."""
+        """A system with the cells that are read, or as many as there is room for, drawn from these values."""
         fields = self.system(rows, cols, strands, glues, 0)
         places = sorted({place for pairs in self.read_cells(fields["strand_glues"], fields["scaffold"]) for place in pairs})
-        cells = [(a, b, self.pick(values), ZERO) for a, b in places]
+        cells = [(a, b, self.pick(values), ZERO) for a, b in self.some(places, MOST_CELLS)]
         return {**fields, "cells": cells, "logs": self.finite_logs(strands)}
 
 
@@ -74,7 +76,7 @@ def document_01(draw):
 def every_layout(draw):
     """Every layout of small grids, legal or not; cells that are bonded one way alone."""
     for rows, cols, strands in [(1, 1, 5), (1, 2, 3), (2, 1, 3), (1, 3, 2), (2, 2, 3), (2, 3, 2), (3, 2, 2)]:
-        fields = draw.system(rows, cols, strands, 6, 30)
+        fields = draw.system(rows, cols, strands, 6, 20)
         fields = {**fields, "logs": draw.finite_logs(strands)}
         yield from (state_g(fields, list(layout)) for layout in product(range(strands), repeat=rows * cols))
 
@@ -127,7 +129,7 @@ def zeros(draw):
 def large(draw):
     """The largest grid and many strands; all empty, one strand alone, full."""
     for rows, cols, strands, glues in [(32, 32, 3, 4), (32, 1, 64, 9), (1, 32, 64, 256), (12, 12, 20, 12)]:
-        fields = {**draw.system(rows, cols, strands, glues, 40), "logs": draw.finite_logs(strands)}
+        fields = {**draw.system(rows, cols, strands, glues, 20), "logs": draw.finite_logs(strands)}
         bays = rows * cols
         for layout in [[0] * bays, [0] * (bays - 1) + [1], [strands - 1] * bays, draw.full(fields), draw.layout(fields)]:
             yield state_g(fields, layout)
@@ -188,7 +190,8 @@ def joined(draw):
         layout = draw.full(fields)
         layout = layout[:-2] + [7, 8] if 6 in some else layout
         layout = layout + [1] if 5 in some else layout
-        yield state_g(broken(draw, draw.seeded(fields, 2), some), layout)
+        system = [number for number in some if number < 5]
+        yield state_g(broken(draw, draw.seeded(fields, 2), system), layout)
 
 
 def readings(draw):
