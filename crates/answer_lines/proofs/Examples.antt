@@ -1,14 +1,10 @@
 -- The definitions at small values, computed: what docs/CASES.md says of answers. Assumes nothing.
-use mathlib.Core.Bool.{true}
 use mathlib.Core.List.{[], _∷_, _++_}
 use mathlib.Core.Path.{_≡_, refl}
 use lib.Ieee.{nan, isNan}
 use lib.IntN.{negsuc}
-use Rattle.case_text.specs.Plain.{isPlain}
 use Rattle.answer_lines.specs.Puts.{decimal, numberText, signedText, floatText}
 use Rattle.answer_lines.specs.Lines.{refusedWord, spaced, refusedText}
-use Rattle.answer_lines.specs.Lists.{item, listed}
-use Rattle.answer_lines.specs.Coded.{codedByte, coded}
 
 zero-text : numberText 0 ≡ 48 ∷ []
 unfolding decimal numberText
@@ -30,13 +26,3 @@ both-values = refl
 no-values : refusedText record { number = 13; first = 5; second = 3 } ≡ refusedWord ++ (49 ∷ 51 ∷ [])
 unfolding decimal numberText spaced refusedText
 no-values = refl
-
--- `1,20`
-two-items : listed numberText 0 (1 ∷ 20 ∷ []) ≡ 49 ∷ 44 ∷ 50 ∷ 48 ∷ []
-unfolding decimal numberText item listed
-two-items = refl
-
--- `a%20`
-space : coded (97 ∷ 32 ∷ []) ≡ 97 ∷ 37 ∷ 50 ∷ 48 ∷ []
-unfolding isPlain codedByte coded
-space = refl

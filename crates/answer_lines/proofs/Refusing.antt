@@ -1,6 +1,6 @@
 -- Laws of a refusal's line: how many values its number has, and the values one after the other. Assumes nothing.
 use Prim.Native.Nat.{ℕ, zero, suc, _+_, _≤_, _<_}
-use mathlib.Core.Bool.{Bool, true, _&&_}
+use mathlib.Core.Bool.{Bool, true, false, cond}
 use mathlib.Core.List.{List, [], _∷_, _++_, append-nil}
 use mathlib.Core.Path.{_≡_, refl, sym, ap, _∙_}
 use native.Mathlib.Nat.{le-of-suc-le-suc, zero-add}
@@ -11,24 +11,27 @@ use lib.ListN.{length, getD, take}
 use lib.Seq.{take-nil}
 use Rattle.units.specs.Refusals.{valueCount}
 use Rattle.units.specs.declared.Refusal.{Refusal}
-use Rattle.case_text.proofs.Worth.{and-left, and-right}
 use Rattle.answer_lines.specs.Puts.{numberText}
 use Rattle.answer_lines.specs.Lines.{refusedWord, spaced, refusedText}
 
 -- whether a list has the counts of the numbers from n on
 unfoldable agree : List ℕ → ℕ → Bool
 agree [] n = true
-agree (x ∷ xs) n = eqb x (valueCount n) && agree xs (suc n)
+agree (x ∷ xs) n = cond (eqb x (valueCount n)) (agree xs (suc n)) false
+
+agree-here : (t more : Bool) → cond t more false ≡ true → (t ≡ true) × (more ≡ true)
+agree-here true more e = (refl, e)
+agree-here false more e = let z : _≡_ {A = ℕ} 0 1 = cc in absurd (omega arith)
 
 count-in : (xs : List ℕ) (n i : ℕ) → agree xs n ≡ true → i < length xs → getD xs i 0 ≡ valueCount (n + i)
 unfolding agree
 count-in [] n i a h = absurd (omega arith)
 count-in (x ∷ xs) n zero a h =
     let e : n ≡ n + 0 = omega arith in
-    eqb-true x (valueCount n) (and-left (eqb x (valueCount n)) (agree xs (suc n)) a) ∙ ap valueCount e
+    eqb-true x (valueCount n) (agree-here (eqb x (valueCount n)) (agree xs (suc n)) a .0) ∙ ap valueCount e
 count-in (x ∷ xs) n (suc i) a h =
     let e : suc n + i ≡ n + suc i = omega arith in
-    count-in xs (suc n) i (and-right (eqb x (valueCount n)) (agree xs (suc n)) a) (le-of-suc-le-suc h) ∙ ap valueCount e
+    count-in xs (suc n) i (agree-here (eqb x (valueCount n)) (agree xs (suc n)) a .1) (le-of-suc-le-suc h) ∙ ap valueCount e
 
 -- the counts of the numbers up to 18, as the code has them
 abbrev pub counts : List ℕ

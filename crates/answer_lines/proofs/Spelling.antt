@@ -14,8 +14,6 @@ use lib.Ieee.Compare.{differs-from-itself, nan-differs}
 use lib.IntN.{ℤ, pos, negsuc, natAbs}
 use lib.Signed.{ltZ}
 use Rattle.io.specs.Digits.{glyph, digits, Fewest}
-use Rattle.case_text.specs.Plain.{isPlain}
-use Rattle.answer_lines.specs.Coded.{codedByte}
 use Rattle.answer_lines.specs.Puts.{decimal, numberText, signedText, floatText}
 
 ten : (n : ℕ) → glyph (n % 10) ≡ 48 + n % 10
@@ -45,7 +43,7 @@ decimal-is (suc g) n (suc (suc j)) w h =
     rw (le-ltb n 10 over, ten n) (ap (λ (l : List ℕ). l ++ ((48 + n % 10) ∷ [])) (decimal-is g (n / 10) (suc j) (fewer n j w) (omega arith)))
 
 -- as many digits as hold a number are enough
-at-most : (b least n k m : ℕ) → 0 < b → Fewest b least n k → least ≤ m → n < b ^ m → k ≤ m
+pub at-most : (b least n k m : ℕ) → 0 < b → Fewest b least n k → least ≤ m → n < b ^ m → k ≤ m
 at-most b least n k m some w h room = go (leb k m) refl
   where
     go : (t : Bool) → leb k m ≡ t → k ≤ m
@@ -90,15 +88,3 @@ float-text x k e f w =
 pub nan-text : (x : Float) → ne x x ≡ true → 110 ∷ 97 ∷ 110 ∷ [] ≡ floatText x
 unfolding floatText isNan
 nan-text x e = rw (differs-from-itself x (subst⁻¹ T e tt))
-
--- ---- bytes of a text
-
-pub plain-byte : (b : ℕ) → isPlain b ≡ true → b ∷ [] ≡ codedByte b
-unfolding codedByte
-plain-byte b e = rw e
-
-pub hidden-byte : (b k : ℕ) (spelt : List ℕ) → isPlain b ≡ false → b < 256 → Fewest 16 2 b k → spelt ≡ digits 16 k b → (37 ∷ []) ++ spelt ≡ codedByte b
-unfolding codedByte
-hidden-byte b k spelt e small w s =
-    let two : k ≡ 2 = let least = w .0 in omega (arith, at-most 16 2 b k 2 (lit< tt) w (lit≤ tt) (omega arith)) in
-    rw (e, s, two)

@@ -1,4 +1,2 @@
 pub mod Puts
 pub mod Lines
-pub mod Lists
-pub mod Coded

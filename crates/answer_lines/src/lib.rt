@@ -3,21 +3,14 @@
 // Each function puts a text at the place `at` of a lent slice, leaves the rest of the slice as it is, and answers the next place.
 // What does not fit is cut off, and the next place is then the slice's end: a run of these calls leaves the answer, or as much
 // of its front as has room.
-mod coded;
 mod lines;
-mod lists;
 mod puts;
 
-pub use coded::put_coded;
 pub use lines::put_floats;
 pub use lines::put_value;
 pub use lines::refused;
 pub use lines::refused_with_tables;
 pub use lines::unreadable;
-pub use lists::put_long_numbers;
-pub use lists::put_next_float;
-pub use lists::put_numbers;
-pub use lists::put_small_numbers;
 pub use puts::put_float;
 pub use puts::put_number;
 pub use puts::put_signed;

@@ -6,8 +6,8 @@ use native.Mathlib.Numerals.{add-one}
 use native.Mathlib.Omega.{arith}
 use lib.ListN.{length, getD, drop, drop-of-length-le}
 use lib.Seq.{drop-cons}
-use Rattle.answer_lines.specs.Lists.{item, listed}
-use Rattle.answer_lines.specs.Coded.{codedByte, coded}
+use Rattle.answer_lists.specs.Lists.{item, listed}
+use Rattle.answer_lists.specs.Coded.{codedByte, coded}
 
 -- the item at place 0 has no comma, any other has one
 pub first-item : (i : ℕ) (text : List ℕ) → i ≡ 0 → text ≡ item i text

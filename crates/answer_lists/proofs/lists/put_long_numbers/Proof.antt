@@ -2,13 +2,13 @@
 use Prim.Native.Nat.{_+_, _-_}
 use native.Mathlib.Omega.{arith}
 use lib.ListN.{length, getD, drop}
 use Rattle.answer_lines.specs.Puts.{numberText}
-use Rattle.answer_lines.specs.Lists.{item, listed}
+use Rattle.answer_lists.specs.Lists.{item, listed}
 use Rattle.answer_lines.proofs.Putting.{then-put, put-within, Ending, ending-starts, ending-goes-on, ending-ends}
-use Rattle.answer_lines.proofs.Listing.{listed-next, listed-end}
+use Rattle.answer_lists.proofs.Listing.{listed-next, listed-end}
 use borrow.Author.Needs.{needs}
-use Rattle.answer_lines.proofs.lists.put_long_numbers.Statement.{statement}
-use Rattle.answer_lines.proofs.lists.put_long_numbers.Tie as tie
+use Rattle.answer_lists.proofs.lists.put_long_numbers.Statement.{statement}
+use Rattle.answer_lists.proofs.lists.put_long_numbers.Tie as tie
 
 abbrev Inv-loop : tie.InvT-loop
 Inv-loop out₀ at word table next₀ i₀ out next i = Ending out₀ next₀ (listed numberText 0 table) (listed numberText i (drop i table)) out next

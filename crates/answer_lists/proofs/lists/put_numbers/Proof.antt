@@ -1,15 +1,14 @@
--- `lists::put_small_numbers` meets its contract: the invariant is that what is left of the list ends the line. Assumes nothing.
-use Prim.Native.Nat.{ℕ, _+_, _-_}
-use mathlib.Core.Path.{ap}
+-- `lists::put_numbers` meets its contract: the invariant is that what is left of the list ends the line. Assumes nothing.
+use Prim.Native.Nat.{_+_, _-_}
 use native.Mathlib.Omega.{arith}
 use lib.ListN.{length, getD, drop}
 use Rattle.answer_lines.specs.Puts.{numberText}
-use Rattle.answer_lines.specs.Lists.{item, listed}
-use Rattle.answer_lines.proofs.Putting.{put-as, then-put, put-within, Ending, ending-starts, ending-goes-on, ending-ends}
-use Rattle.answer_lines.proofs.Listing.{listed-next, listed-end}
+use Rattle.answer_lists.specs.Lists.{item, listed}
+use Rattle.answer_lines.proofs.Putting.{then-put, put-within, Ending, ending-starts, ending-goes-on, ending-ends}
+use Rattle.answer_lists.proofs.Listing.{listed-next, listed-end}
 use borrow.Author.Needs.{needs}
-use Rattle.answer_lines.proofs.lists.put_small_numbers.Statement.{statement}
-use Rattle.answer_lines.proofs.lists.put_small_numbers.Tie as tie
+use Rattle.answer_lists.proofs.lists.put_numbers.Statement.{statement}
+use Rattle.answer_lists.proofs.lists.put_numbers.Tie as tie
 
 abbrev Inv-loop : tie.InvT-loop
 Inv-loop out₀ at word table next₀ i₀ out next i = Ending out₀ next₀ (listed numberText 0 table) (listed numberText i (drop i table)) out next
@@ -25,14 +24,11 @@ loop-holds c =
     let put = c .before .before in
     ending-starts (listed numberText 0 (put .before .before .before .before .before .args .table .now)) (put-within (put .put-text .ensures))
 
-mul-wide : tie.Need-mul-wide Inv-loop μ-loop
-mul-wide c = omega arith
+mul-put-next-number : tie.Need-mul-put-next-number Inv-loop μ-loop
+mul-put-next-number c = omega arith
 
-shared-slice-read-wide : tie.Need-shared-slice-read-wide Inv-loop μ-loop
-shared-slice-read-wide c = omega arith
-
-wide-requires : tie.Need-wide-requires Inv-loop μ-loop
-wide-requires c κs = search needs
+shared-slice-read-put-next-number : tie.Need-shared-slice-read-put-next-number Inv-loop μ-loop
+shared-slice-read-put-next-number c = omega arith
 
 put-next-number-requires : tie.Need-put-next-number-requires Inv-loop μ-loop
 put-next-number-requires c κs = search needs
@@ -46,12 +42,11 @@ loop-less c = omega arith
 loop-again : tie.Need-loop-again Inv-loop μ-loop
 loop-again c =
     let put = c .before .before in
-    let turn = put .before .before .before .before in
+    let turn = put .before .before .before in
     let l = turn .before in
     let table = l .before .before .before .before .before .before .before .before .args .table .now in
     let i = l .loop .i in
-    ending-goes-on (l .loop .inv) (item i (numberText (getD table i 0))) (listed numberText (i + 1) (drop (i + 1) table)) (listed-next numberText table 0 i (turn .loop-test .taken))
-    (put-as (ap (λ (k : ℕ). item i (numberText k)) (put .before .wide .ensures)) (put .put-next-number .ensures))
+    ending-goes-on (l .loop .inv) (item i (numberText (getD table i 0))) (listed numberText (i + 1) (drop (i + 1) table)) (listed-next numberText table 0 i (turn .loop-test .taken)) (put .put-next-number .ensures)
 
 same-length : tie.Need-same-length Inv-loop μ-loop
 same-length c = let l = c .before .loop .inv .long in search needs
@@ -62,17 +57,16 @@ returns c =
     let table = l .before .before .before .before .before .before .before .before .args .table .now in
     then-put (l .before .before .before .put-text .ensures) (ending-ends (l .loop .inv) (listed-end numberText table (l .loop .i) (c .loop-test .left)))
 
-pub put-small-numbers-spec : {M : Type 1} → statement M
-put-small-numbers-spec =
+pub put-numbers-spec : {M : Type 1} → statement M
+put-numbers-spec =
     tie.close
     (tie.spec
     Inv-loop
     μ-loop
     put-text-requires
     loop-holds
-    mul-wide
-    shared-slice-read-wide
-    wide-requires
+    mul-put-next-number
+    shared-slice-read-put-next-number
     put-next-number-requires
     add-i
     loop-less

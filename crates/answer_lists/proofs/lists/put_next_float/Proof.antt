@@ -1,9 +1,9 @@
 -- `lists::put_next_float` meets its contract: a comma stands before each item but the first. Assumes nothing.
 use Rattle.answer_lines.proofs.Putting.{put-as, then-put}
-use Rattle.answer_lines.proofs.Listing.{first-item, later-item}
+use Rattle.answer_lists.proofs.Listing.{first-item, later-item}
 use borrow.Author.Needs.{needs}
-use Rattle.answer_lines.proofs.lists.put_next_float.Statement.{statement}
-use Rattle.answer_lines.proofs.lists.put_next_float.Tie as tie
+use Rattle.answer_lists.proofs.lists.put_next_float.Statement.{statement}
+use Rattle.answer_lists.proofs.lists.put_next_float.Tie as tie
 
 put-float-requires : tie.Need-put-float-requires
 put-float-requires c κs = search needs

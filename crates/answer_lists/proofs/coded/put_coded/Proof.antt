@@ -2,12 +2,12 @@
 use Prim.Native.Nat.{_+_, _-_}
 use native.Mathlib.Omega.{arith}
 use lib.ListN.{length, getD, drop}
-use Rattle.answer_lines.specs.Coded.{codedByte, coded}
+use Rattle.answer_lists.specs.Coded.{codedByte, coded}
 use Rattle.answer_lines.proofs.Putting.{then-put, put-within, Ending, ending-starts, ending-goes-on, ending-ends}
-use Rattle.answer_lines.proofs.Listing.{coded-next, coded-end}
+use Rattle.answer_lists.proofs.Listing.{coded-next, coded-end}
 use borrow.Author.Needs.{needs}
-use Rattle.answer_lines.proofs.coded.put_coded.Statement.{statement}
-use Rattle.answer_lines.proofs.coded.put_coded.Tie as tie
+use Rattle.answer_lists.proofs.coded.put_coded.Statement.{statement}
+use Rattle.answer_lists.proofs.coded.put_coded.Tie as tie
 
 abbrev Inv-loop : tie.InvT-loop
 Inv-loop out₀ at word text next₀ i₀ out next i = Ending out₀ next₀ (coded text) (coded (drop i text)) out next

@@ -1,10 +1,10 @@
 -- `coded::put_byte` meets its contract: a plain byte by itself, any other by its two digits. Assumes nothing.
 use mathlib.Core.Path.{sym, _∙_}
 use Rattle.answer_lines.proofs.Putting.{put-as, then-put}
-use Rattle.answer_lines.proofs.Spelling.{plain-byte, hidden-byte}
+use Rattle.answer_lists.proofs.Bytes.{plain-byte, hidden-byte}
 use borrow.Author.Needs.{needs}
-use Rattle.answer_lines.proofs.coded.put_byte.Statement.{statement}
-use Rattle.answer_lines.proofs.coded.put_byte.Tie as tie
+use Rattle.answer_lists.proofs.coded.put_byte.Statement.{statement}
+use Rattle.answer_lists.proofs.coded.put_byte.Tie as tie
 
 is-plain-requires : tie.Need-is-plain-requires
 is-plain-requires c κs = search needs
