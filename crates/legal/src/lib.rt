@@ -7,3 +7,4 @@ pub use allowed::allowed_tiles;
 pub use allowed::check_shape;
 pub use grid::grid_sets;
 pub use scan::bay_at;
+pub use scan::number_at;
