@@ -1,2 +1,4 @@
 pub mod Clearing
 pub mod Walking
+pub mod Position
+pub mod Backing

@@ -1,10 +1,11 @@
 -- The way back through a table of notes, over the sets alone. Assumes nothing.
 use mathlib.Core.List.{List, [], _∷_, _++_}
-use Prim.Native.Nat.{ℕ, zero, suc, _+_, _/_, _%_, _<_}
+use Prim.Native.Nat.{ℕ, zero, suc, _+_, _/_, _%_, _≤_, _<_}
 use lib.ListN.{length, getD}
-use Rattle.ledger_rows.specs.Scan.{Scan}
+use Rattle.ledger_rows.specs.Scan.{Scan, Filled}
 use Rattle.ledger_rows.specs.Blocks.{size, leavers, cameFrom, need}
 use Rattle.ledger_rows.specs.Trace.{below}
+use Rattle.ledger_fill.specs.Handed.{setScan}
 
 -- the strands of a filling in scan order, oldest bay first
 unfoldable pub inOrder : List ℕ → List ℕ
@@ -22,3 +23,11 @@ traceIn z table (suc k) i =
 abbrev pub Noted : Scan → List ℕ → (n : ℕ) → Type 0
 Noted z table n =
     (k i : ℕ) → k < n → i < size z (suc k) (suc (z .kept)) → below (leavers z (z .kept) k) (getD table (need z k + i) 0) < length (leavers z (z .kept) k)
+
+-- what a way back is handed: a window, a strand for each bay, few rows, and a table that notes them all
+pub record Traceable (window : ℕ) (sets : List ℕ) (notes : List ℕ) : Type 0 where
+  pub some-window : 0 < window
+  pub filled : Filled (setScan window sets) (length sets)
+  pub few-rows : need (setScan window sets) (length sets) ≤ 1048576
+  pub noted-all : need (setScan window sets) (length sets) ≤ length notes
+  pub noted : Noted (setScan window sets) notes (length sets)

@@ -30,7 +30,7 @@ pub fn least_row(block: &[f64]) -> Choice
 }
 
 // The strand at position p of the set.
-fn member(set: u64, p: usize) -> u32
+pub fn member(set: u64, p: usize) -> u32
     requires { ⌜ p < length (strandsOf set) ⌝ }
     ensures { λ r. ⌜ r ≡ getD (strandsOf set) p 0 ⌝ }
 {
