@@ -2,3 +2,4 @@ pub mod Clearing
 pub mod Walking
 pub mod Position
 pub mod Backing
+pub mod Tracking

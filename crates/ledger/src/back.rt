@@ -51,3 +51,19 @@ fn wide(note: u8) -> u32
 {
     note as u32
 }
+
+// Writes, from the last bay to the first, the strands that the notes lead back to from a row of the
+// last block. The order is that of the scan.
+pub fn trace(window: usize, sets: &[u64], notes: &[u8], last: Place, order: &mut [u32])
+    requires { ⌜ Traceable window (now sets) (now notes) ⌝ }
+    requires { ⌜ (last ≡ placeOf (setScan window (now sets)) (length (now sets)) (last .row)) × (last .row < size (setScan window (now sets)) (length (now sets)) (suc (window - 1))) × (length (now order) ≡ length (now sets)) ⌝ }
+    ensures { λ _. ⌜ now (order .exit) ≡ inOrder (traceIn (setScan window (now (sets .entry))) (now (notes .entry)) (length (now (sets .entry))) (last .row)) ⌝ }
+{
+    let mut at = last;
+    let mut k = sets.len();
+    while 0 < k {
+        k -= 1;
+        order[k] = strand_at(sets, k, at.row);
+        at = step_back(window, sets, notes, k, at);
+    }
+}
