@@ -3,3 +3,4 @@ pub mod Walking
 pub mod Position
 pub mod Backing
 pub mod Tracking
+pub mod Running

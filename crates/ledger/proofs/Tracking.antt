@@ -52,7 +52,7 @@ module _ (window : ℕ) (sets notes : List ℕ) where
   unfolding traceIn inOrder
   trace-more k i = rw (add-one k)
 
-  back-inside : Traceable window sets notes → (k i : ℕ) → k < length sets → i < size z (k + 1) (suc (window - 1)) → rowBack z notes k i < size z k (suc (window - 1))
+  pub back-inside : Traceable window sets notes → (k i : ℕ) → k < length sets → i < size z (k + 1) (suc (window - 1)) → rowBack z notes k i < size z k (suc (window - 1))
   back-inside t k i h l =
       let low : i < size z (suc k) (suc (window - 1)) = subst (λ n. i < size z n (suc (window - 1))) (add-one k) l in
       let d : Digits i (size z k (window - 1)) (length (strandsOf (getD sets k 0))) =

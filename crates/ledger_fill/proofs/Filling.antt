@@ -10,7 +10,7 @@ use lib.ListN.{length, getD, take, drop, length-append, length-drop}
 use lib.Seq.{take-at, drop-at, length-take-le}
 use Rattle.floats.specs.declared.Choice.{Choice}
 use Rattle.ledger_rows.specs.Scan.{Scan, Filled}
-use Rattle.ledger_rows.specs.Blocks.{flat, size, blockOf, energies, notes, need, energyTable, noteTable}
+use Rattle.ledger_rows.specs.Blocks.{flat, size, leavers, blockOf, energies, notes, need, energyTable, noteTable}
 use Rattle.ledger_rows.proofs.Lists.{flat-none, flat-more}
 use Rattle.ledger_rows.proofs.Rows.{length-energies, length-notes}
 use Rattle.ledger_rows.proofs.Tables.{length-energy-table, length-note-table}
@@ -25,7 +25,7 @@ use Rattle.ledger_fill.proofs.Sizes.{need-mono, need-more, need-none, C
 
 -- ---- sizes depend on the window and the sets alone
 module _ (window : ℕ) (sets : List ℕ) (rows rows′ : ℕ → List Float) (major major′ side side′ : List Float) where
-  size-same : (k j : ℕ) → size (scanOf window sets rows major side) k j ≡ size (scanOf window sets rows′ major′ side′) k j
+  pub size-same : (k j : ℕ) → size (scanOf window sets rows major side) k j ≡ size (scanOf window sets rows′ major′ side′) k j
   unfolding size
   size-same zero j = refl
   size-same (suc k) zero = refl
@@ -35,6 +35,12 @@ module _ (window : ℕ) (sets : List ℕ) (rows rows′ : ℕ → List Float) (m
   unfolding need
   need-same zero = refl
   need-same (suc k) = ap₂ (λ a b. a + b) (need-same k) (size-same (suc k) (suc (window - 1)))
+
+  pub leavers-same : (j k : ℕ) → leavers (scanOf window sets rows major side) j k ≡ leavers (scanOf window sets rows′ major′ side′) j k
+  unfolding leavers
+  leavers-same j zero = refl
+  leavers-same zero (suc k) = refl
+  leavers-same (suc j) (suc k) = leavers-same j k
 
 -- ---- what stands right before the end
 part-middle : {A : Type 0} (xs ys rest : List A) (from end : ℕ) → length xs ≡ from → end ≡ from + length ys → part from end ((xs ++ ys) ++ rest) ≡ ys
@@ -69,6 +75,11 @@ module _ (z : Scan) where
   no-energies : length (energies z 0) ≡ 0
   unfolding energies
   no-energies = refl
+
+  pub block-within : (k : ℕ) → length (energies z k) ≤ need z k
+  block-within k =
+      let t = ends-in k in
+      omega (arith, length-energy-table z k, ap length (t .1) ∙ length-append (t .0) (energies z k))
 
   pub block-before : (k from end : ℕ) (rest : List Float) → end ≡ need z k → from + length (energies z k) ≡ end → part from end (energyTable z k ++ rest) ≡ energies z k
   block-before k from end rest e f =

@@ -8,4 +8,5 @@ pub mod LeadsBack
 pub mod Windows
 pub mod Tables
 pub mod TheLedgerIsRight
+pub mod Answering
 pub mod Computed

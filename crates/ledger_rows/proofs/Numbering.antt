@@ -3,7 +3,7 @@
 use mathlib.Core.Path.{_≡_, refl, sym, ap, ap₂, _∙_}
 use mathlib.Core.List.{List, [], _∷_}
 use Prim.Native.Nat.{ℕ, zero, suc, _+_, _-_, _*_, _/_, _%_, _<_, _≤_}
-use native.Mathlib.Nat.{mod-lt, div-lt-iff-lt-mul, div-add-mod', add-mul, mul-assoc, mul-one, mul-comm, add-assoc}
+use native.Mathlib.Nat.{mul-pos, mod-lt, div-lt-iff-lt-mul, div-add-mod', add-mul, mul-assoc, mul-one, mul-comm, add-assoc}
 use native.Mathlib.Omega.{arith}
 use lib.Arith.{digits-lt, digits-div, digits-mod}
 use lib.ListN.{length, getD}
@@ -73,6 +73,13 @@ module _ (z : Scan) where
   leavers-some j zero some = omega arith
   leavers-some zero (suc k) some = some k (omega arith)
   leavers-some (suc j) (suc k) some = leavers-some j k (λ i h. some i (omega arith))
+
+  -- where each bay has a strand, each block has a row
+  pub size-some : (k j : ℕ) → Filled z k → 0 < size z k j
+  unfolding size
+  size-some zero j some = omega arith
+  size-some (suc k) zero some = omega arith
+  size-some (suc k) (suc j) some = mul-pos (size-some k j (λ i h. some i (omega arith))) (some k (omega arith))
 
   -- ---- the row of a legal filling, on its last j bays
   unfoldable pub row : (k j : ℕ) (f : List ℕ) → Legal z k f → ℕ

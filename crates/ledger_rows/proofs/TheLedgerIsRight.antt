@@ -5,7 +5,7 @@ use mathlib.Core.Logic.{⊎-elim, _↔_}
 use mathlib.Core.Bool.{true}
 use mathlib.Core.List.{List, [], _∷_}
 use Prim.Native.Nat.{ℕ, zero, suc, _+_, _*_, _/_, _%_, _<_, _≤_}
-use native.Mathlib.Nat.{mul-pos, eq-or-lt-of-le, le-of-suc-le-suc}
+use native.Mathlib.Nat.{eq-or-lt-of-le, le-of-suc-le-suc}
 use native.Mathlib.Omega.{arith}
 use lib.Arith.{digits-lt}
 use lib.Ieee.{Float, binary64, le}
@@ -20,7 +20,7 @@ use Rattle.ledger_rows.specs.Blocks.{size, leavers, newest, heldAt, lowe
 use Rattle.ledger_rows.specs.Trace.{trace, answerRow, answer, layout}
 use Rattle.ledger_rows.specs.LeastEnergyTheorem.{windows, EndsIn, LeadsBack, LeastOf, Answered, LeastEnergyTheorem}
 use Rattle.ledger_rows.proofs.Choosing.{Chosen, chosen}
-use Rattle.ledger_rows.proofs.Numbering.{Digits, digits, row, row-lt, size-more, size-leavers, leavers-some}
+use Rattle.ledger_rows.proofs.Numbering.{Digits, digits, row, row-lt, size-more, size-some, size-leavers, leavers-some}
 use Rattle.ledger_rows.proofs.Rows.{energies-at, length-energies, length-notes}
 use Rattle.ledger_rows.proofs.Least.{least}
 use Rattle.ledger_rows.proofs.LeadsBack.{Back, leads-back}
@@ -32,13 +32,6 @@ abbrev RowsGood : Scan → ℕ → Type 0
 RowsGood z k = (i : ℕ) → i < size z k (suc (z .kept)) → Good (heldAt (energies z k) i)
 
 module _ (z : Scan) where
-  -- where each bay has a strand, each block has a row
-  size-some : (k j : ℕ) → Filled z k → 0 < size z k j
-  unfolding size
-  size-some zero j some = omega arith
-  size-some (suc k) zero some = omega arith
-  size-some (suc k) (suc j) some = mul-pos (size-some k j (λ i h. some i (omega arith))) (some k (omega arith))
-
   -- ---- a bad row makes a row of the next block bad, so good rows come from good rows
   good-before : (k : ℕ) → Filled z (suc k) → RowsGood z (suc k) → RowsGood z k
   good-before k some good i h =
@@ -67,7 +60,7 @@ module _ (z : Scan) where
   AnswerAt n i = Chosen (lastRows n) (size z n (suc (z .kept))) i
 
   answer-at : (n : ℕ) → Filled z n → (i : ℕ) × AnswerAt n i
-  answer-at n some = chosen (lastRows n) (size z n (suc (z .kept))) (size-some n (suc (z .kept)) some)
+  answer-at n some = chosen (lastRows n) (size z n (suc (z .kept))) (size-some z n (suc (z .kept)) some)
 
   answer-row : (n i : ℕ) → AnswerAt n i → answerRow z n ≡ lastRows n i
   unfolding answerRow
