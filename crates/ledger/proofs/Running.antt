@@ -138,8 +138,8 @@ module _ (window : ℕ) (sets : List ℕ) (bays major side : List Float) where
               few-rows = fit .few-rows;
               noted-all = omega (arith, noted-long, fit .notes-fit);
               noted = λ k i h l.
-                let low : i < size z (suc k) (suc (window - 1)) = subst (λ m. i < m) (size-is (suc k) (suc (window - 1))) l in
-                rw (note-read k i h low, leavers-are (window - 1) k) (note-leaves z n (fit .filled) (λ k. sets-rise (getD sets k 0)) k i h low);
+                  let low : i < size z (suc k) (suc (window - 1)) = subst (λ m. i < m) (size-is (suc k) (suc (window - 1))) l in
+                  rw (note-read k i h low, leavers-are (window - 1) k) (note-leaves z n (fit .filled) (λ k. sets-rise (getD sets k 0)) k i h low);
             }
 
         back-same : (k i : ℕ) → k < n → i < size z (suc k) (suc (window - 1)) → rowBack zs noted k i ≡ rowBefore z k i

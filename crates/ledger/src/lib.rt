@@ -1,5 +1,5 @@
 // What is read out of a filled ledger, and the whole run over numbers that it is handed.
 pub mod back;
-pub mod run;
 pub mod clear;
 pub mod read;
+pub mod run;
