@@ -4,5 +4,7 @@ mod order;
 mod sites;
 
 pub use bonds_of::fill_bonds;
+pub use order::by_rows;
 pub use order::fill_scan;
+pub use order::window;
 pub use sites::fill_sites;

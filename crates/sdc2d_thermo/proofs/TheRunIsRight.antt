@@ -23,7 +23,7 @@ use Rattle.sdc2d_thermo.proofs.Meaning.{strands-rise}
 use Rattle.sdc2d_thermo.proofs.Fillings.{Fit, fillingTo, filling-legal, filling-sum, layout-legal, filling-back}
 
 -- the test of an energy is the order's
-no-energy-is : (x : Float) → noEnergy x ≡ not (lt (inf true) x)
+pub no-energy-is : (x : Float) → noEnergy x ≡ not (lt (inf true) x)
 unfolding noEnergy lt
 no-energy-is nan = refl
 no-energy-is (inf true) = refl

@@ -1,9 +1,9 @@
 // Whether a ledger of this need may be made, and fits what is lent.
 ghost use mathlib.Core.Path.{_≡_};
-ghost use mathlib.Core.Bool.{_||_};
 ghost use mathlib.Core.List.{[], _∷_};
 ghost use lib.Dec.{ltb};
-ghost use Rattle.units.specs.Refusals.{check, refuseIf, _▷_};
+ghost use Rattle.units.specs.Refusals.{check, refuseIf};
+ghost use Rattle.sdc2d_thermo.specs.Run.{roomVerdict};
 use units::Check;
 use units::Refusal;
 
@@ -23,7 +23,7 @@ fn check_table(need: usize, lent: usize) -> Check
 
 // Refusals 8 and 9.
 pub(crate) fn check_room(need: usize, energies: usize, notes: usize) -> Check
-    ensures { λ r. ⌜ r ≡ check (refuseIf (ltb 1048576 need) 8 [] ▷ refuseIf (ltb energies need || ltb notes need) 9 (need ∷ [])) ⌝ }
+    ensures { λ r. ⌜ r ≡ check (roomVerdict need energies notes) ⌝ }
 {
     if 1048576 < need {
         return Check::Refused(Refusal {

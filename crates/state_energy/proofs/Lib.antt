@@ -1,5 +1,5 @@
 pub mod Sums
 pub mod Passed
-pub mod Answered
+pub mod Answering
 pub mod Unique
 pub mod Worked

@@ -2,4 +2,5 @@
 mod listing;
 mod state;
 
+pub use state::answered;
 pub use state::state_g;

@@ -52,7 +52,7 @@ fn check_state(
 }
 
 // A sum in units of R·T as an answer in kcal/mol; 10 where it is a NaN or minus infinity.
-fn answered(sum: f64, kelvin: f64) -> EnergyAnswer
+pub fn answered(sum: f64, kelvin: f64) -> EnergyAnswer
     ensures { λ r. ⌜ r ≡ energyAnswer (energyVerdict sum) (inKcal sum kelvin) ⌝ }
 {
     if no_energy(sum) {

@@ -5,7 +5,7 @@ use borrow.Author.Needs.{needs}
 use Rattle.units.proofs.Answers.{an-energy, refused, given}
 use Rattle.units.proofs.Verdicts.{refused-first, passed}
 use Rattle.sdc2d.specs.System.{System, system}
-use Rattle.state_energy.proofs.Answered.{state-tabled, answered-so}
+use Rattle.state_energy.proofs.Answering.{state-tabled, answered-so}
 use Rattle.state_energy.proofs.Passed.{readable, stocked, system-fine, laid-out}
 use Rattle.state_energy.specs.Listing.{listingSum}
 use Rattle.state_energy.specs.StateG.{layoutVerdict, energyVerdict, stateVerdict, inKcal}
