@@ -1,0 +1,54 @@
+// The numbers of a system, and its temperature.
+use crate::fields::is_number;
+use crate::fields::number_in;
+use case_text::FloatValue;
+use case_text::Number;
+use case_text::field;
+use case_text::float;
+use case_text::number;
+use sdc2d::Sizes;
+
+// Whether all sizes could be read, and the sizes.
+pub(crate) struct SizesRead {
+    pub readable: bool,
+    pub sizes: Sizes,
+}
+
+// Whether each number could be read.
+fn all_numbers(rows: Number, cols: Number, strands: Number, glues: Number) -> bool {
+    is_number(rows) && is_number(cols) && is_number(strands) && is_number(glues)
+}
+
+// Whether a float could be read.
+fn is_float(value: FloatValue) -> bool {
+    match value {
+        FloatValue::Of(_) => true,
+        FloatValue::Unreadable => false,
+    }
+}
+
+// The float, 0.0 where it could not be read.
+fn float_in(value: FloatValue) -> f64 {
+    match value {
+        FloatValue::Of(x) => x,
+        FloatValue::Unreadable => 0.0,
+    }
+}
+
+pub(crate) fn read_sizes(line: &[u8]) -> SizesRead {
+    let rows = number(field(line, b"rows"));
+    let cols = number(field(line, b"cols"));
+    let strands = number(field(line, b"strands"));
+    let glues = number(field(line, b"glues"));
+    let kelvin = float(field(line, b"kelvin"));
+    SizesRead {
+        readable: all_numbers(rows, cols, strands, glues) && is_float(kelvin),
+        sizes: Sizes {
+            rows: number_in(rows),
+            cols: number_in(cols),
+            strands: number_in(strands),
+            glues: number_in(glues),
+            kelvin: float_in(kelvin),
+        },
+    }
+}
