@@ -1,0 +1,77 @@
+// The call: fields are read, the library is asked, and the answer is put down.
+use crate::answers;
+use answer_lines::unreadable;
+use case_text::first_floats;
+use case_text::first_small_numbers;
+use system_text::ListRead;
+use system_text::SystemRead;
+use system_text::read_system;
+use system_text::small_numbers_field;
+
+// The fields of a case are read.
+fn state_g_read(
+    read: SystemRead,
+    layout_read: ListRead,
+    strand_glues: &[u32; 325],
+    scaffold: &[u32; 1089],
+    delta_g: &[f64],
+    entropy: &[f64],
+    logs: &[f64; 65],
+    seeds: &[u32; 36],
+    layout: &[u32; 1089],
+    out: &mut [u8],
+) -> usize {
+    if !read.readable {
+        return unreadable(out);
+    }
+    if !layout_read.readable {
+        return unreadable(out);
+    }
+    let sizes = read.sizes;
+    let answer = state_energy::state_g(
+        sizes,
+        first_small_numbers(strand_glues, read.strand_glues),
+        first_small_numbers(scaffold, read.scaffold),
+        first_floats(delta_g, read.delta_g),
+        first_floats(entropy, read.entropy),
+        first_floats(logs, read.logs),
+        first_small_numbers(seeds, read.seeds),
+        first_small_numbers(layout, layout_read.count),
+    );
+    answers::energy(out, answer)
+}
+
+pub(crate) fn state_g(
+    line: &[u8],
+    delta_g: &mut [f64],
+    entropy: &mut [f64],
+    out: &mut [u8],
+) -> usize {
+    let mut strand_glues = [0u32; 325];
+    let mut scaffold = [0u32; 1089];
+    let mut logs = [0.0; 65];
+    let mut seeds = [0u32; 36];
+    let mut layout = [0u32; 1089];
+    let read = read_system(
+        line,
+        &mut strand_glues,
+        &mut scaffold,
+        delta_g,
+        entropy,
+        &mut logs,
+        &mut seeds,
+    );
+    let layout_read = small_numbers_field(line, b"layout", &mut layout);
+    state_g_read(
+        read,
+        layout_read,
+        &strand_glues,
+        &scaffold,
+        delta_g,
+        entropy,
+        &logs,
+        &seeds,
+        &layout,
+        out,
+    )
+}
