@@ -109,9 +109,9 @@ pub(crate) fn matrices_into(
 ) -> Matrices
     ensures { λ r. ⌜ (r .«delta_g» ≤ length (now («delta_g» .entry))) × (r .entropy ≤ length (now (entropy .entry))) ⌝ }
 {
-    let mut cells = [0usize; 96];
+    let mut cells = [0usize; 128];
     let cells_read = numbers_field(line, b"cells", &mut cells);
-    let mut energies = [0.0; 96];
+    let mut energies = [0.0; 128];
     let energies_read = floats_field(line, b"energies", &mut energies);
     let fits = paired(cells_read, energies_read);
     let matrices = lengths(line, glues, fits, delta_g.len(), entropy.len());
