@@ -25,6 +25,13 @@ pub fn first_numbers<'a>(s: &'a [usize], n: usize) -> &'a [usize]
     &s[..k]
 }
 
+pub fn first_long_numbers<'a>(s: &'a [u64], n: usize) -> &'a [u64]
+    ensures { λ r. ⌜ now r ≡ take n (now (s .entry)) ⌝ }
+{
+    let k = least(n, s.len());
+    &s[..k]
+}
+
 pub fn first_floats<'a>(s: &'a [f64], n: usize) -> &'a [f64]
     ensures { λ r. ⌜ now r ≡ take n (now (s .entry)) ⌝ }
 {

@@ -20,6 +20,7 @@ pub use fields::is_case;
 pub use fields::same;
 pub use fronts::first_bytes;
 pub use fronts::first_floats;
+pub use fronts::first_long_numbers;
 pub use fronts::first_numbers;
 pub use fronts::first_small_numbers;
 pub use kinds::FloatValue;

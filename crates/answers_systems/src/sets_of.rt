@@ -1,0 +1,192 @@
+// The call `allowed_tiles`: constraints are read, and the library is asked with a table of sevens.
+use crate::fields::at_most;
+use crate::fields::number_or;
+use crate::fields::numbers_field;
+use crate::fields::small_numbers_field;
+use crate::tables::all_long_numbers;
+use answer_lines::refused_with_tables;
+use answer_lines::unreadable;
+use answer_lists::put_long_numbers;
+use case_lists::Count;
+use case_text::Number;
+use case_text::first_long_numbers;
+use case_text::first_numbers;
+use case_text::first_small_numbers;
+use case_text::has_field;
+use sdc2d::Sizes;
+use units::Check;
+
+// The sets, or a refusal with what became of the lent table.
+fn put_sets(out: &mut [u8], answer: Check, kept: bool, sets: &[u64]) -> usize {
+    match answer {
+        Check::Refused(r) => refused_with_tables(out, r, kept),
+        Check::Passed => put_long_numbers(out, 0, b"sets ", sets),
+    }
+}
+
+// Asks with a part of the table that is as long as the case says.
+fn sets_into(
+    z: Sizes,
+    strand_glues: &[u32],
+    scaffold: &[u32],
+    delta_g: &[f64],
+    entropy: &[f64],
+    logs: &[f64],
+    seeds: &[u32],
+    constrained: bool,
+    offsets: &[usize],
+    tiles: &[u32],
+    length: usize,
+    sets: &mut [u64],
+    out: &mut [u8],
+) -> usize {
+    if sets.len() < length {
+        return unreadable(out);
+    }
+    let answer = legal::allowed_tiles(
+        z,
+        strand_glues,
+        scaffold,
+        delta_g,
+        entropy,
+        logs,
+        seeds,
+        constrained,
+        offsets,
+        tiles,
+        &mut sets[..length],
+    );
+    let kept = all_long_numbers(sets, 7);
+    put_sets(out, answer, kept, first_long_numbers(sets, length))
+}
+
+// The bays of a grid; a side past the limit of 32 is taken for 33, which is refused whatever is lent.
+fn bays(z: Sizes) -> usize {
+    at_most(z.rows, 33) * at_most(z.cols, 33)
+}
+
+// The constraints of a case are read, and a table of sevens is lent.
+fn constraints_read(
+    line: &[u8],
+    z: Sizes,
+    strand_glues: &[u32],
+    scaffold: &[u32],
+    delta_g: &[f64],
+    entropy: &[f64],
+    logs: &[f64],
+    seeds: &[u32],
+    constrained: bool,
+    offsets: &[usize; 1025],
+    offsets_read: Count,
+    tiles: &[u32; 2977],
+    tiles_read: Count,
+    out: &mut [u8],
+) -> usize {
+    let Count::Of(o) = offsets_read else {
+        return unreadable(out);
+    };
+    let Count::Of(t) = tiles_read else {
+        return unreadable(out);
+    };
+    let Number::Of(length) = number_or(line, b"sets_length", bays(z)) else {
+        return unreadable(out);
+    };
+    sets_lent(
+        z,
+        strand_glues,
+        scaffold,
+        delta_g,
+        entropy,
+        logs,
+        seeds,
+        constrained,
+        first_numbers(offsets, o),
+        first_small_numbers(tiles, t),
+        length as usize,
+        out,
+    )
+}
+
+// A table of sevens is lent.
+fn sets_lent(
+    z: Sizes,
+    strand_glues: &[u32],
+    scaffold: &[u32],
+    delta_g: &[f64],
+    entropy: &[f64],
+    logs: &[f64],
+    seeds: &[u32],
+    constrained: bool,
+    offsets: &[usize],
+    tiles: &[u32],
+    length: usize,
+    out: &mut [u8],
+) -> usize {
+    let mut sets = [7u64; 1089];
+    sets_into(
+        z,
+        strand_glues,
+        scaffold,
+        delta_g,
+        entropy,
+        logs,
+        seeds,
+        constrained,
+        offsets,
+        tiles,
+        length,
+        &mut sets,
+        out,
+    )
+}
+
+// The offsets of a case that has constraints; of another none.
+fn offsets_field(line: &[u8], constrained: bool, room: &mut [usize]) -> Count {
+    if constrained {
+        return numbers_field(line, b"offsets", room);
+    }
+    Count::Of(0)
+}
+
+// The tiles of a case that has constraints; of another none.
+fn tiles_field(line: &[u8], constrained: bool, room: &mut [u32]) -> Count {
+    if constrained {
+        return small_numbers_field(line, b"tiles", room);
+    }
+    Count::Of(0)
+}
+
+// The answer to `allowed_tiles` on a system.
+pub(crate) fn answer_sets(
+    line: &[u8],
+    z: Sizes,
+    strand_glues: &[u32],
+    scaffold: &[u32],
+    delta_g: &[f64],
+    entropy: &[f64],
+    logs: &[f64],
+    seeds: &[u32],
+    out: &mut [u8],
+) -> usize {
+    let constrained = has_field(line, b"offsets");
+    let mut offsets = [0usize; 1025];
+    let offsets_read = offsets_field(line, constrained, &mut offsets);
+    let mut tiles = [0u32; 2977];
+    let tiles_read = tiles_field(line, constrained, &mut tiles);
+    constraints_read(
+        line,
+        z,
+        strand_glues,
+        scaffold,
+        delta_g,
+        entropy,
+        logs,
+        seeds,
+        constrained,
+        &offsets,
+        offsets_read,
+        &tiles,
+        tiles_read,
+        out,
+    )
+}
