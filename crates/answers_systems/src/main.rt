@@ -1,7 +1,5 @@
 // Answers the calls on systems of a case file (docs/CASES.md): reads it from standard input, writes one line a case.
 mod bonds_of;
-mod fields;
-mod matrices;
 mod sets_of;
 mod systems;
 mod tables;

@@ -1,19 +1,19 @@
 // The call `allowed_tiles`: constraints are read, and the library is asked with a table of sevens.
-use crate::fields::at_most;
-use crate::fields::number_or;
-use crate::fields::numbers_field;
-use crate::fields::small_numbers_field;
+ghost use Prim.Native.Nat.{_≤_};
 use crate::tables::all_long_numbers;
 use answer_lines::refused_with_tables;
 use answer_lines::unreadable;
 use answer_lists::put_long_numbers;
-use case_lists::Count;
 use case_text::Number;
 use case_text::first_long_numbers;
 use case_text::first_numbers;
 use case_text::first_small_numbers;
 use case_text::has_field;
 use sdc2d::Sizes;
+use system_text::ListRead;
+use system_text::number_or;
+use system_text::numbers_field;
+use system_text::small_numbers_field;
 use units::Check;
 
 // The sets, or a refusal with what became of the lent table.
@@ -60,6 +60,13 @@ fn sets_into(
     put_sets(out, answer, kept, first_long_numbers(sets, length))
 }
 
+// The smaller of two numbers.
+fn at_most(n: usize, limit: usize) -> usize
+    ensures { λ r. ⌜ r ≤ limit ⌝ }
+{
+    if n < limit { n } else { limit }
+}
+
 // The bays of a grid; a side past the limit of 32 is taken for 33, which is refused whatever is lent.
 fn bays(z: Sizes) -> usize {
     at_most(z.rows, 33) * at_most(z.cols, 33)
@@ -77,17 +84,17 @@ fn constraints_read(
     seeds: &[u32],
     constrained: bool,
     offsets: &[usize; 1025],
-    offsets_read: Count,
+    offsets_read: ListRead,
     tiles: &[u32; 2977],
-    tiles_read: Count,
+    tiles_read: ListRead,
     out: &mut [u8],
 ) -> usize {
-    let Count::Of(o) = offsets_read else {
+    if !offsets_read.readable {
         return unreadable(out);
-    };
-    let Count::Of(t) = tiles_read else {
+    }
+    if !tiles_read.readable {
         return unreadable(out);
-    };
+    }
     let Number::Of(length) = number_or(line, b"sets_length", bays(z)) else {
         return unreadable(out);
     };
@@ -100,8 +107,8 @@ fn constraints_read(
         logs,
         seeds,
         constrained,
-        first_numbers(offsets, o),
-        first_small_numbers(tiles, t),
+        first_numbers(offsets, offsets_read.count),
+        first_small_numbers(tiles, tiles_read.count),
         length as usize,
         out,
     )
@@ -140,20 +147,28 @@ fn sets_lent(
     )
 }
 
+// A list without items.
+fn no_items() -> ListRead {
+    ListRead {
+        readable: true,
+        count: 0,
+    }
+}
+
 // The offsets of a case that has constraints; of another none.
-fn offsets_field(line: &[u8], constrained: bool, room: &mut [usize]) -> Count {
+fn offsets_field(line: &[u8], constrained: bool, room: &mut [usize]) -> ListRead {
     if constrained {
         return numbers_field(line, b"offsets", room);
     }
-    Count::Of(0)
+    no_items()
 }
 
 // The tiles of a case that has constraints; of another none.
-fn tiles_field(line: &[u8], constrained: bool, room: &mut [u32]) -> Count {
+fn tiles_field(line: &[u8], constrained: bool, room: &mut [u32]) -> ListRead {
     if constrained {
         return small_numbers_field(line, b"tiles", room);
     }
-    Count::Of(0)
+    no_items()
 }
 
 // The answer to `allowed_tiles` on a system.

@@ -1,6 +1,8 @@
 // Lists in fields, read to the front of a lent slice: a missing one is unreadable.
+ghost use mathlib.Core.Path.{_≡_};
 ghost use Prim.Native.Nat.{_≤_};
 ghost use lib.ListN.{length};
+ghost use Rattle.system_text.specs.Fields.{numberOr};
 use case_lists::Count;
 use case_lists::floats_into;
 use case_lists::numbers_into;
@@ -50,7 +52,7 @@ pub fn small_numbers_field(line: &[u8], key: &[u8], room: &mut [u32]) -> ListRea
 }
 
 // The numbers of a list.
-pub(crate) fn numbers_field(line: &[u8], key: &[u8], room: &mut [usize]) -> ListRead
+pub fn numbers_field(line: &[u8], key: &[u8], room: &mut [usize]) -> ListRead
     ensures { λ r. ⌜ r .count ≤ length (now (room .entry)) ⌝ }
 {
     if has_field(line, key) {
@@ -70,11 +72,13 @@ pub(crate) fn floats_field(line: &[u8], key: &[u8], room: &mut [f64]) -> ListRea
 }
 
 // The number of a field, or `otherwise` where the field is missing.
-pub(crate) fn number_or(line: &[u8], key: &[u8], otherwise: usize) -> Number {
-    if !has_field(line, key) {
-        return Number::Of(otherwise as u64);
+pub fn number_or(line: &[u8], key: &[u8], otherwise: usize) -> Number
+    ensures { λ r. ⌜ r ≡ numberOr (now (key .entry)) (now (line .entry)) otherwise ⌝ }
+{
+    if has_field(line, key) {
+        return number(field(line, key));
     }
-    number(field(line, key))
+    Number::Of(otherwise as u64)
 }
 
 // Whether a number could be read.

@@ -8,6 +8,8 @@ mod matrices;
 mod sizes;
 
 pub use fields::ListRead;
+pub use fields::number_or;
+pub use fields::numbers_field;
 pub use fields::small_numbers_field;
 use lists::lists_into;
 use matrices::matrices_into;
