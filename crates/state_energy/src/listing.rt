@@ -64,7 +64,7 @@ fn with_north(
 }
 
 // The listing sum.
-pub fn state_beta_energy(
+pub(crate) fn state_beta_energy(
     z: Sizes,
     strand_glues: &[u32],
     scaffold: &[u32],
