@@ -4,3 +4,5 @@ pub mod Position
 pub mod Backing
 pub mod Tracking
 pub mod Running
+pub mod TheRunIsRight
+pub mod Computed

@@ -55,7 +55,7 @@ module _ (window : ℕ) (sets : List ℕ) (bays major side : List Float) where
   size-is : (k j : ℕ) → size zs k j ≡ size z k j
   size-is = size-same window sets (λ k. []) (λ k. take 64 (drop (k * 64) bays)) [] major [] side
 
-  need-is : (k : ℕ) → need zs k ≡ need z k
+  pub need-is : (k : ℕ) → need zs k ≡ need z k
   need-is = need-same window sets (λ k. []) (λ k. take 64 (drop (k * 64) bays)) [] major [] side
 
   leavers-are : (j k : ℕ) → leavers zs j k ≡ leavers z j k
