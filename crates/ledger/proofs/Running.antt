@@ -1,19 +1,19 @@
 -- What a filled ledger holds, for the least row, the way back, and the clearing after a bad answer. Assumes nothing.
 use mathlib.Core.Path.{_≡_, refl, sym, ap, ap₂, _∙_, subst}
-use mathlib.Core.Bool.{Bool, true, false, cond}
+use mathlib.Core.Bool.{true, false, cond}
 use mathlib.Core.List.{List, [], _∷_, _++_}
 use Prim.Native.Nat.{ℕ, zero, suc, _+_, _-_, _*_, _/_, _%_, _≤_, _<_}
 use native.Mathlib.Nat.{zero-add}
 use native.Mathlib.Numerals.{add-one}
 use native.Mathlib.Omega.{arith}
 use lib.Ieee.{Float, inf, lt, binary64, ofBits}
-use lib.ListN.{length, getD, take, drop, replicate, length-append, length-replicate, List·getD-append}
+use lib.ListN.{length, getD, take, drop, replicate, length-replicate, List·getD-append}
 use lib.Seq.{drop-at}
 use Rattle.floats.specs.declared.Choice.{Choice}
-use Rattle.sets.specs.Set.{has, members}
+use Rattle.sets.specs.Set.{has}
 use Rattle.sets.proofs.Members.{rising}
-use Rattle.ledger_rows.specs.Scan.{Scan, Filled, Rising}
-use Rattle.ledger_rows.specs.Blocks.{size, leavers, heldAt, lowest, cameFrom, energies, notes, need, energyTable, noteTable}
+use Rattle.ledger_rows.specs.Scan.{Scan, Rising}
+use Rattle.ledger_rows.specs.Blocks.{size, leavers, heldAt, lowest, energies, notes, need, energyTable, noteTable}
 use Rattle.ledger_rows.specs.Trace.{below, rowBefore, trace, answerRow, answer, layout}
 use Rattle.ledger_rows.proofs.Numbering.{size-some}
 use Rattle.ledger_rows.proofs.Rows.{length-energies}
@@ -26,10 +26,9 @@ use Rattle.ledger_fill.specs.Last.{lastOf}
 use Rattle.ledger_fill.proofs.Filling.{size-same, need-same, leavers-same, block-within, block-before}
 use Rattle.ledger_fill.proofs.Over.{length-over}
 use Rattle.ledger_fill.proofs.Sizes.{need-mono, need-more}
-use Rattle.ledger.specs.declared.back.Place.{Place}
 use Rattle.ledger.specs.Tracing.{inOrder, traceIn, Traceable}
 use Rattle.ledger.specs.Places.{placeOf, rowBack}
-use Rattle.ledger.specs.Run.{ifAnswered, energiesAfter, notesAfter, orderAfter}
+use Rattle.ledger.specs.Run.{energiesAfter, notesAfter, orderAfter}
 use Rattle.ledger.proofs.Tracking.{back-inside}
 
 -- what was written is written over by as many

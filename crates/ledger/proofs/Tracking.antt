@@ -1,14 +1,14 @@
 -- The way back, bay by bay: what a turn knows of the strands that are written. Assumes nothing.
-use mathlib.Core.Path.{_≡_, refl, sym, ap, ap₂, _∙_, subst}
+use mathlib.Core.Path.{_≡_, sym, ap, ap₂, _∙_, subst}
 use mathlib.Core.List.{List, [], _∷_, _++_, append-assoc, append-nil}
-use Prim.Native.Nat.{ℕ, zero, suc, _+_, _-_, _*_, _/_, _%_, _≤_, _<_}
+use Prim.Native.Nat.{ℕ, suc, _+_, _-_, _%_, _≤_, _<_}
 use native.Mathlib.Numerals.{add-one}
 use native.Mathlib.Omega.{arith}
 use lib.Arith.{digits-lt}
 use lib.ListN.{length, getD, set, drop, length-set}
 use lib.Seq.{drop-cons, drop-length, getD-set-same, drop-set-lt, lt-length-set}
 use Rattle.ledger_rows.specs.Scan.{Scan}
-use Rattle.ledger_rows.specs.Blocks.{size, leavers, need}
+use Rattle.ledger_rows.specs.Blocks.{size}
 use Rattle.ledger_rows.proofs.Numbering.{Digits, digits, size-more, size-leavers}
 use Rattle.ledger_fill.specs.Handed.{strandsOf, setScan}
 use Rattle.ledger.specs.declared.back.Place.{Place}

@@ -1,6 +1,6 @@
 -- A bay's block, as the code makes it from what it has at hand, is the block of the scan. Assumes nothing.
-use mathlib.Core.Path.{_≡_, refl, sym, ap, ap₂, _∙_, subst, fun-ext}
-use mathlib.Core.Bool.{Bool, true, false, cond, not}
+use mathlib.Core.Path.{_≡_, refl, sym, ap, ap₂, _∙_, fun-ext}
+use mathlib.Core.Bool.{cond, not}
 use mathlib.Core.List.{List, [], _∷_}
 use Prim.Native.Nat.{ℕ, zero, suc, _+_, _-_, _*_, _%_, _≤_, _<_}
 use native.Mathlib.Nat.{mul-assoc, mul-add-mod-self-right, zero-mod, mod-one}
@@ -14,10 +14,8 @@ use borrow.Author.Tests.{le-leb, lt-leb, eq-eqb}
 use Rattle.floats.specs.declared.Choice.{Choice}
 use Rattle.sets.specs.Set.{has, members}
 use Rattle.ledger_rows.specs.Scan.{Scan}
-use Rattle.ledger_rows.specs.Blocks.{tab, flat, size, leavers, newest, cameFrom, rowFrom, addsAt, blockOf}
+use Rattle.ledger_rows.specs.Blocks.{tab, flat, size, leavers, newest, rowFrom, addsAt, blockOf}
 use Rattle.ledger_rows.proofs.Numbering.{leavers-early, leavers-late}
-use Rattle.ledger_fill.specs.declared.rows.Own.{Own}
-use Rattle.ledger_fill.specs.declared.bays.Bay.{Bay}
 use Rattle.ledger_fill.specs.Handed.{strandsOf, bondAt, withBond, addedOf, scanOf}
 use Rattle.ledger_fill.specs.Bays.{ownAdds, ownOf, besideAt, bayBlock, leavingOf, bayOf}
 

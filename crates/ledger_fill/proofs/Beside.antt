@@ -1,17 +1,16 @@
 -- The strand on the previous bay as the rows go by: it runs round the strands of its set. Assumes nothing.
 use mathlib.Core.Path.{_≡_, refl, sym, ap, _∙_, subst}
-use mathlib.Core.Bool.{true, false, cond}
-use Prim.Native.Nat.{ℕ, zero, suc, _+_, _*_, _/_, _%_, _≤_, _<_}
+use mathlib.Core.Bool.{cond}
+use Prim.Native.Nat.{ℕ, _+_, _*_, _/_, _%_, _≤_, _<_}
 use native.Mathlib.Nat.{mod-lt, div-add-mod'}
 use native.Mathlib.Decide.{decLt}
 use native.Mathlib.Omega.{arith}
 use lib.Arith.{digits-mod}
-use lib.Dec.{ltb}
 use lib.ListN.{length, getD}
 use borrow.Author.Tests.{lt-ltb, le-ltb}
-use Rattle.sets.specs.Set.{has, members, nextOf}
-use Rattle.sets.proofs.Members.{Member, member, past}
-use Rattle.sets.proofs.Walk.{Counted, start, following}
+use Rattle.sets.specs.Set.{has, nextOf}
+use Rattle.sets.proofs.Members.{member, past}
+use Rattle.sets.proofs.Walk.{start, following}
 use Rattle.ledger_fill.specs.Handed.{strandsOf}
 use Rattle.ledger_fill.specs.Bays.{besideAt, followingIn}
 use Rattle.ledger_fill.proofs.Reading.{any-default}

@@ -1,6 +1,6 @@
 -- Block after block: what a turn of the fill knows of both tables. Assumes nothing.
 use mathlib.Core.Path.{_≡_, refl, sym, ap, ap₂, _∙_, subst}
-use mathlib.Core.List.{List, [], _∷_, _++_, append-assoc}
+use mathlib.Core.List.{List, [], _++_, append-assoc}
 use Prim.Native.Nat.{ℕ, zero, suc, _+_, _-_, _*_, _/_, _≤_, _<_}
 use native.Mathlib.Nat.{zero-add}
 use native.Mathlib.Numerals.{add-one}
@@ -9,19 +9,18 @@ use lib.Ieee.{Float}
 use lib.ListN.{length, getD, take, drop, length-append, length-drop}
 use lib.Seq.{take-at, drop-at, length-take-le}
 use Rattle.floats.specs.declared.Choice.{Choice}
-use Rattle.ledger_rows.specs.Scan.{Scan, Filled}
+use Rattle.ledger_rows.specs.Scan.{Scan}
 use Rattle.ledger_rows.specs.Blocks.{flat, size, leavers, blockOf, energies, notes, need, energyTable, noteTable}
 use Rattle.ledger_rows.proofs.Lists.{flat-none, flat-more}
 use Rattle.ledger_rows.proofs.Rows.{length-energies, length-notes}
 use Rattle.ledger_rows.proofs.Tables.{length-energy-table, length-note-table}
 use Rattle.ledger_fill.specs.declared.bays.Bay.{Bay}
 use Rattle.ledger_fill.specs.Handed.{strandsOf, scanOf, setScan, runScan, Fillable}
-use Rattle.ledger_fill.specs.declared.fill.Last.{Last}
 use Rattle.ledger_fill.specs.Last.{lastOf}
 use Rattle.ledger_fill.specs.Bays.{over, part, Writable, leavingOf, bayOf, bayBlock}
 use Rattle.ledger_fill.proofs.Over.{over-none, length-over, over-over}
 use Rattle.ledger_fill.proofs.Agrees.{block-is}
-use Rattle.ledger_fill.proofs.Sizes.{need-mono, need-more, need-none, Coming, Counting, counting-starts, counting-comes, counted, counting-turns, bay-small, bay-is, bay-rows}
+use Rattle.ledger_fill.proofs.Sizes.{need-mono, Coming, Counting, counting-starts, counting-comes, counted, counting-turns, bay-small, bay-is, bay-rows}
 
 -- ---- sizes depend on the window and the sets alone
 module _ (window : ℕ) (sets : List ℕ) (rows rows′ : ℕ → List Float) (major major′ side side′ : List Float) where

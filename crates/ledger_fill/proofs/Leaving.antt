@@ -1,19 +1,19 @@
 -- The walk over the strands that leave: what a turn knows of the running choice and of its row in the block before. Assumes nothing.
-use mathlib.Core.Path.{_≡_, refl, sym, ap, ap₂, _∙_}
+use mathlib.Core.Path.{_≡_, sym, ap, ap₂, _∙_}
 use mathlib.Core.Bool.{true}
 use mathlib.Core.List.{List, [], _∷_, _++_}
-use Prim.Native.Nat.{ℕ, zero, suc, _+_, _*_, _≤_, _<_}
+use Prim.Native.Nat.{ℕ, _+_, _*_, _≤_, _<_}
 use native.Mathlib.Nat.{mul-le-mul-right}
 use native.Mathlib.Decide.{decLt}
 use native.Mathlib.Omega.{arith}
-use lib.Ieee.{Float, binary64, add}
+use lib.Ieee.{Float}
 use lib.ListN.{length, getD, length-append}
 use Rattle.floats.specs.declared.Choice.{Choice}
 use Rattle.sets.specs.Set.{has, members, nextOf}
 use Rattle.sets.proofs.Members.{member-at, length-le}
 use Rattle.sets.proofs.NextMember.{next-from}
-use Rattle.sets.proofs.Walk.{Standing, Step, begin, step, done}
-use Rattle.ledger_rows.specs.Blocks.{heldAt, lower, lowest, candidateFrom, rowFrom}
+use Rattle.sets.proofs.Walk.{Standing, begin, step, done}
+use Rattle.ledger_rows.specs.Blocks.{lower, lowest, candidateFrom}
 use Rattle.ledger_rows.proofs.Choosing.{lowest-one, lowest-turn}
 use Rattle.ledger_fill.specs.declared.rows.Own.{Own}
 use Rattle.ledger_fill.specs.Handed.{strandsOf}

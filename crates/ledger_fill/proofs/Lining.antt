@@ -1,8 +1,7 @@
 -- The walk over a bay's strands that writes a line of rows: what a turn knows of both tables. Assumes nothing.
-use mathlib.Core.Path.{_≡_, refl, sym, ap, ap₂, _∙_, subst}
-use mathlib.Core.Bool.{true}
-use mathlib.Core.List.{List, [], _∷_, _++_}
-use Prim.Native.Nat.{ℕ, zero, suc, _+_, _*_, _≤_, _<_}
+use mathlib.Core.Path.{_≡_, sym, ap, ap₂, _∙_, subst}
+use mathlib.Core.List.{List, [], _∷_}
+use Prim.Native.Nat.{ℕ, _+_, _≤_, _<_}
 use native.Mathlib.Nat.{add-zero}
 use native.Mathlib.Omega.{arith}
 use lib.Ieee.{Float, nan}
@@ -10,14 +9,13 @@ use lib.ListN.{length, getD, set, length-append}
 use Rattle.floats.specs.declared.Choice.{Choice}
 use Rattle.sets.specs.Set.{has, members, nextOf}
 use Rattle.sets.proofs.Members.{member-at, member, length-less, length-mono}
-use Rattle.sets.proofs.Walk.{Standing, Step, begin, step, done}
+use Rattle.sets.proofs.Walk.{Standing, begin, step, done}
 use Rattle.ledger_rows.specs.Blocks.{tab, candidateFrom}
 use Rattle.ledger_rows.proofs.Choosing.{chosen}
 use Rattle.ledger_rows.proofs.Lists.{length-tab, tab-none, tab-more}
 use Rattle.ledger_fill.specs.declared.rows.Own.{Own}
-use Rattle.ledger_fill.specs.declared.bays.Bay.{Bay}
 use Rattle.ledger_fill.specs.Handed.{strandsOf}
-use Rattle.ledger_fill.specs.Bays.{over, part, ownAdds, ownRow, ownOf, bayLine}
+use Rattle.ledger_fill.specs.Bays.{over, part, ownAdds, ownRow}
 use Rattle.ledger_fill.proofs.Over.{over-none, length-over, over-store}
 
 -- a noted strand is below 64

@@ -2,22 +2,21 @@
 use mathlib.Core.Path.{_≡_, refl, sym, ap, ap₂, _∙_, subst}
 use mathlib.Core.Bool.{cond}
 use mathlib.Core.List.{List}
-use Prim.Native.Nat.{ℕ, zero, suc, _+_, _-_, _*_, _/_, _≤_, _<_}
-use native.Mathlib.Nat.{mul-div-cancel-left, mul-le-mul, le-of-suc-le-suc}
+use Prim.Native.Nat.{ℕ, suc, _+_, _-_, _*_, _/_, _≤_, _<_}
+use native.Mathlib.Nat.{mul-div-cancel-left, mul-le-mul}
 use native.Mathlib.Numerals.{add-one}
 use native.Mathlib.Decide.{le-ind}
 use native.Mathlib.Omega.{arith}
-use lib.Dec.{leb}
 use lib.Ieee.{Float}
 use lib.ListN.{length, getD}
 use borrow.Author.Tests.{le-leb, lt-leb}
 use Rattle.sets.specs.Set.{has}
 use Rattle.sets.proofs.Members.{length-le}
 use Rattle.ledger_rows.specs.Scan.{Scan, Filled}
-use Rattle.ledger_rows.specs.Blocks.{size, leavers, need}
+use Rattle.ledger_rows.specs.Blocks.{size, need}
 use Rattle.ledger_rows.proofs.Numbering.{size-more, size-leavers, leavers-some}
 use Rattle.ledger_fill.specs.declared.bays.Bay.{Bay}
-use Rattle.ledger_fill.specs.Handed.{strandsOf, scanOf, setScan, capped}
+use Rattle.ledger_fill.specs.Handed.{strandsOf, scanOf, capped}
 use Rattle.ledger_fill.specs.Bays.{leavingOf, bayOf}
 use Rattle.ledger_fill.proofs.Agrees.{leaving-is}
 

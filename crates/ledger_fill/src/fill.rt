@@ -1,7 +1,7 @@
 // All blocks of the ledger, and how many rows they need.
 ghost use mathlib.Core.Path.{_≡_};
 ghost use Prim.Native.Nat.{_-_, _*_, _/_, _≤_, _<_};
-ghost use lib.ListN.{length, getD};
+ghost use lib.ListN.{length};
 ghost use Rattle.ledger_rows.specs.Scan.{Filled};
 ghost use Rattle.ledger_rows.specs.Blocks.{need, energyTable, noteTable};
 ghost use Rattle.ledger_fill.specs.Handed.{strandsOf, setScan, runScan, Fillable, capped};

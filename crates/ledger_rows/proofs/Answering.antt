@@ -1,11 +1,11 @@
 -- The answer's row is a row of the last block, and each note is a strand that leaves. Assumes nothing.
 use mathlib.Core.Path.{_≡_, sym, ap, _∙_, subst}
-use Prim.Native.Nat.{ℕ, suc, _+_, _*_, _/_, _%_, _<_}
+use Prim.Native.Nat.{ℕ, suc, _/_, _%_, _<_}
 use native.Mathlib.Omega.{arith}
 use lib.ListN.{length, getD}
 use Rattle.floats.specs.declared.Choice.{Choice}
 use Rattle.ledger_rows.specs.Scan.{Scan, Filled, Rising}
-use Rattle.ledger_rows.specs.Blocks.{size, leavers, heldAt, candidate, rowOf, energies, notes}
+use Rattle.ledger_rows.specs.Blocks.{size, leavers, heldAt, candidate, energies, notes}
 use Rattle.ledger_rows.specs.Trace.{below, answerRow}
 use Rattle.ledger_rows.proofs.Choosing.{chosen}
 use Rattle.ledger_rows.proofs.Numbering.{Digits, digits, size-more, size-some, leavers-some}

@@ -1,13 +1,13 @@
 -- What the running choice comes to: the candidate at the first place of a least energy, if every energy is good; a bad one if any is bad.
 -- Assumes nothing.
-use mathlib.Core.Path.{_≡_, refl, sym, ap, _∙_}
+use mathlib.Core.Path.{_≡_, refl, ap, _∙_}
 use mathlib.Core.Logic.{⊎-elim}
 use mathlib.Core.Bool.{Bool, true, false, cond}
 use Prim.Native.Nat.{ℕ, zero, suc, _+_, _<_}
 use native.Mathlib.Nat.{eq-or-lt-of-le, le-of-suc-le-suc, not-suc-le-zero}
 use native.Mathlib.Numerals.{add-one}
 use native.Mathlib.Omega.{arith}
-use lib.Ieee.{Float, inf, lt, le}
+use lib.Ieee.{inf, lt, le}
 use Rattle.floats.specs.declared.Choice.{Choice}
 use Rattle.floats.specs.Values.{Good, Bad}
 use Rattle.floats.specs.Least.{better}

@@ -1,7 +1,7 @@
 -- The definitions compute: two rows of two bays with two strands each, where strand 1 gains 3, and loses 2 beside another 1 and 2 more below one. Assumes nothing.
 use mathlib.Core.Path.{_≡_, refl}
 use mathlib.Core.Bool.{true, false, cond, _&&_}
-use mathlib.Core.List.{List, [], _∷_}
+use mathlib.Core.List.{[], _∷_}
 use Prim.Native.Nat.{ℕ}
 use lib.Dec.{eqb}
 use lib.IntN.{pos}

@@ -5,13 +5,12 @@ use mathlib.Core.List.{List, [], _∷_}
 use Prim.Native.Nat.{ℕ, zero, suc, _+_, _*_, _/_, _%_, _<_}
 use native.Mathlib.Omega.{arith}
 use lib.Arith.{digits-lt}
-use lib.Ieee.{Float}
 use lib.ListN.{length, getD}
 use Rattle.floats.specs.declared.Choice.{Choice}
 use Rattle.ledger_rows.specs.Scan.{Scan, Legal, scanSum, Filled, Rising}
 use Rattle.ledger_rows.specs.Blocks.{size, leavers, heldAt, cameFrom, candidate, rowOf, energies, notes}
 use Rattle.ledger_rows.specs.Trace.{below, rowBefore, trace}
-use Rattle.ledger_rows.proofs.Choosing.{Chosen, chosen}
+use Rattle.ledger_rows.proofs.Choosing.{chosen}
 use Rattle.ledger_rows.proofs.Numbering.{Digits, digits, row, leaves, same-rest, same-whole, size-more, size-leavers, leavers-some, row-lt, row-splits}
 use Rattle.ledger_rows.proofs.Rows.{energies-at, notes-at}
 use Rattle.ledger_rows.proofs.Least.{goesOn, none-held, filling-candidate}

@@ -3,17 +3,17 @@ use mathlib.Core.Path.{_≡_, refl, sym, ap, _∙_}
 use mathlib.Core.Bool.{true}
 use mathlib.Core.List.{List, [], _∷_}
 use Prim.Native.Nat.{ℕ, zero, suc, _+_, _*_, _<_}
+use native.Mathlib.Decide.{decLt}
 use native.Mathlib.Omega.{arith}
-use lib.Ieee.{Float, binary64, ofBits, add, le}
+use lib.Ieee.{Float, binary64, ofBits, add, lt, le}
 use lib.ListN.{length, getD}
-use Rattle.floats.specs.declared.Choice.{Choice}
 use Rattle.floats.specs.Values.{Good}
-use Rattle.floats.proofs.Order.{le-trans}
+use Rattle.floats.proofs.Order.{le-trans, lt-le-trans}
 use Rattle.floats.proofs.Good.{good-le-refl, zero-good}
 use Rattle.floats.proofs.Add.{good-left, add-mono, add-mono-good}
-use Rattle.ledger_rows.specs.Scan.{Scan, Legal, scanSum}
-use Rattle.ledger_rows.specs.Blocks.{size, leavers, newest, heldAt, cameFrom, candidate, rowOf, energies}
-use Rattle.ledger_rows.proofs.Choosing.{Chosen, chosen}
+use Rattle.ledger_rows.specs.Scan.{Scan, Legal, scanSum, Rising}
+use Rattle.ledger_rows.specs.Blocks.{leavers, newest, heldAt, candidate, rowOf, energies}
+use Rattle.ledger_rows.proofs.Choosing.{chosen}
 use Rattle.ledger_rows.proofs.Numbering.{row, leaves, row-lt, row-splits, leaves-lt, leaves-at, newest-at, legal-length}
 use Rattle.ledger_rows.proofs.Rows.{energies-at}
 
@@ -79,3 +79,39 @@ module _ (z : Scan) where
       let at : heldAt (energies z (suc k)) (q * length (z .strands k) + l .0 .0) ≡ rowOf z (energies z k) k q (l .0 .0) .energy =
       energies-at z k q (l .0 .0) (row-lt z k (z .kept) f (l .1)) (l .0 .1) in
       rw at (least-more k t f l (least k f (l .1)) (rw at at g))
+
+  -- ---- a row that comes from a filling with a lower leaver is larger
+  lower-position : (l : List ℕ) (a b : ℕ) → Rising l → a < length l → b < length l → getD l a 0 < getD l b 0 → a < b
+  lower-position l a b rises h g less =
+      elim (decLt a b) [
+        | yes i ↦ i
+        | no i ↦ elim (decLt b a) [ yes j ↦ absurd (omega (arith, rises b a j h)) | no j ↦ absurd (omega (arith, ap (λ n. getD l n 0) (same a b i j))) ]
+      ]
+    where
+      same : (a b : ℕ) → ¬ (a < b) → ¬ (b < a) → a ≡ b
+      same a b x y = omega arith
+
+  pub lower-leaver : (k t : ℕ) (f : List ℕ) (l : Legal z (suc k) (t ∷ f)) → Rising (leavers z (z .kept) k)
+      → Good (rowOf z (energies z k) k (row z k (z .kept) f (l .1)) (l .0 .0) .energy)
+      → getD f (z .kept) 0 < rowOf z (energies z k) k (row z k (z .kept) f (l .1)) (l .0 .0) .who
+      → lt (rowOf z (energies z k) k (row z k (z .kept) f (l .1)) (l .0 .0) .energy) (goesOn z (scanSum z f) f t) ≡ true
+  lower-leaver k t f l rises g less =
+      let q = row z k (z .kept) f (l .1) in
+      let a = leaves z (z .kept) k f (l .1) in
+      let n = length (leavers z (z .kept) k) in
+      let next = candidate z (energies z k) k q (l .0 .0) in
+      let within : a < n = leaves-lt z (z .kept) k f (l .1) in
+      let found = chosen next n (omega arith) in
+      let held : rowOf z (energies z k) k q (l .0 .0) ≡ next (found .0) = found .1 .held in
+      let good : Good (next (found .0) .energy) = rw held at g in
+      let lower : getD (leavers z (z .kept) k) a 0 < getD (leavers z (z .kept) k) (found .0) 0 = rw (leaves-at z (z .kept) k f (l .1)) (rw held at less) in
+      let first : lt (next (found .0) .energy) (next a .energy) ≡ true =
+      found .1 .first good a (lower-position (leavers z (z .kept) k) a (found .0) rises within (found .1 .within) lower) in
+      let own : Good (next a .energy) = found .1 .least good a within .0 in
+      let x = heldAt (energies z k) (row z k (suc (z .kept)) f (l .1)) in
+      let c = z .added (length f) (getD f (z .kept) 0) (getD f 0 0) t in
+      let same : next a .energy ≡ add binary64 x c = filling-candidate (energies z k) k t f l in
+      let sum : Good (add binary64 x c) = rw same at own in
+      rw held
+      (lt-le-trans (next (found .0) .energy) (add binary64 x c) (add binary64 (scanSum z f) c) (rw same at first)
+      (add-mono binary64 x (scanSum z f) c (least k f (l .1) (good-left binary64 x c sum) .1) sum))

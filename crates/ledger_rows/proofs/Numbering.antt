@@ -1,13 +1,13 @@
 -- How rows are numbered: by the positions of a filling's strands, oldest slowest. A filling's row is its leaver's position times the width, plus the row of the rest.
 -- Assumes nothing.
-use mathlib.Core.Path.{_≡_, refl, sym, ap, ap₂, _∙_}
+use mathlib.Core.Path.{_≡_, refl, sym, ap, _∙_}
 use mathlib.Core.List.{List, [], _∷_}
 use Prim.Native.Nat.{ℕ, zero, suc, _+_, _-_, _*_, _/_, _%_, _<_, _≤_}
-use native.Mathlib.Nat.{mul-pos, mod-lt, div-lt-iff-lt-mul, div-add-mod', add-mul, mul-assoc, mul-one, mul-comm, add-assoc}
+use native.Mathlib.Nat.{mul-pos, mod-lt, div-lt-iff-lt-mul, div-add-mod', add-mul, mul-assoc, mul-comm, add-assoc}
 use native.Mathlib.Omega.{arith}
 use lib.Arith.{digits-lt, digits-div, digits-mod}
 use lib.ListN.{length, getD}
-use Rattle.ledger_rows.specs.Scan.{Scan, In, Legal, Filled}
+use Rattle.ledger_rows.specs.Scan.{Scan, Legal, Filled}
 use Rattle.ledger_rows.specs.Blocks.{size, leavers, newest}
 
 -- two numbers with a rest below the width are equal where their parts are

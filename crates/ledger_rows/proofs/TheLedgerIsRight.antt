@@ -1,28 +1,29 @@
 -- THE THEOREM: the ledger, the layout and the answer of `specs/` are what the customer asks for, over any legal strands and any added numbers.
 -- Each bay must have a legal strand, as refusal 7 sees to, and strands are walked by rising number. Assumes nothing.
-use mathlib.Core.Path.{_≡_, refl, sym, ap, _∙_, subst}
-use mathlib.Core.Logic.{⊎-elim, _↔_}
+use mathlib.Core.Path.{_≡_, sym, ap, _∙_, subst}
+use mathlib.Core.Logic.{⊎-elim}
 use mathlib.Core.Bool.{true}
 use mathlib.Core.List.{List, [], _∷_}
 use Prim.Native.Nat.{ℕ, zero, suc, _+_, _*_, _/_, _%_, _<_, _≤_}
 use native.Mathlib.Nat.{eq-or-lt-of-le, le-of-suc-le-suc}
 use native.Mathlib.Omega.{arith}
 use lib.Arith.{digits-lt}
-use lib.Ieee.{Float, binary64, le}
-use lib.ListN.{length, getD, take}
+use lib.Ieee.{binary64, lt, le}
+use lib.ListN.{length, getD}
 use Rattle.floats.specs.declared.Choice.{Choice}
 use Rattle.floats.specs.Values.{Good, Bad}
 use Rattle.floats.proofs.Order.{le-trans}
 use Rattle.floats.proofs.Good.{good-or-bad, good-not-bad}
 use Rattle.floats.proofs.Add.{good-left}
 use Rattle.ledger_rows.specs.Scan.{Scan, Legal, scanSum, Filled, Rising}
-use Rattle.ledger_rows.specs.Blocks.{size, leavers, newest, heldAt, lowest, candidate, rowOf, energies}
+use Rattle.ledger_rows.specs.Blocks.{size, leavers, heldAt, candidate, rowOf, energies, notes}
 use Rattle.ledger_rows.specs.Trace.{trace, answerRow, answer, layout}
 use Rattle.ledger_rows.specs.LeastEnergyTheorem.{windows, EndsIn, LeadsBack, LeastOf, Answered, LeastEnergyTheorem}
 use Rattle.ledger_rows.proofs.Choosing.{Chosen, chosen}
 use Rattle.ledger_rows.proofs.Numbering.{Digits, digits, row, row-lt, size-more, size-some, size-leavers, leavers-some}
-use Rattle.ledger_rows.proofs.Rows.{energies-at, length-energies, length-notes}
-use Rattle.ledger_rows.proofs.Least.{least}
+use Rattle.ledger_rows.proofs.Rows.{energies-at, notes-at, length-energies, length-notes}
+use Rattle.ledger_rows.proofs.Least.{least, lower-leaver}
+use Rattle.ledger_rows.proofs.Places.{leavers-rise}
 use Rattle.ledger_rows.proofs.LeadsBack.{Back, leads-back}
 use Rattle.ledger_rows.proofs.Windows.{length-choices, choice-of, choice-once}
 use Rattle.ledger_rows.proofs.Tables.{length-energy-table, length-note-table, energies-follow, notes-follow}
@@ -104,6 +105,22 @@ module _ (z : Scan) where
         let same = row-of-choice k i f l h e in
         subst (λ r. le (heldAt (energies z k) r) (scanSum z f) ≡ true) same (least z k f l (good (row z k (suc (z .kept)) f l) (row-lt z k (suc (z .kept)) f l)) .1)
 
+    lower-left : (k i : ℕ) → RowsGood z (suc k) → i < size z (suc k) (suc (z .kept)) → (f : List ℕ) → Legal z (suc k) f → EndsIn z (suc k) i f
+        → getD f (suc (z .kept)) 0 < getD (notes z (suc k)) i 0 → lt (heldAt (energies z (suc k)) i) (scanSum z f) ≡ true
+    unfolding row scanSum
+    lower-left k i good h [] l e less = absurd l
+    lower-left k i good h (t ∷ f) l e less =
+        let q = row z k (z .kept) f (l .1) in
+        let c = length (z .strands k) in
+        let same : q * c + l .0 .0 ≡ i = row-of-choice (suc k) i (t ∷ f) l h e in
+        let inside = row-lt z k (z .kept) f (l .1) in
+        let energy : heldAt (energies z (suc k)) i ≡ rowOf z (energies z k) k q (l .0 .0) .energy =
+        ap (heldAt (energies z (suc k))) (sym same) ∙ energies-at z k q (l .0 .0) inside (l .0 .1) in
+        let note : getD (notes z (suc k)) i 0 ≡ rowOf z (energies z k) k q (l .0 .0) .who =
+        ap (λ r. getD (notes z (suc k)) r 0) (sym same) ∙ notes-at z k q (l .0 .0) inside (l .0 .1) in
+        rw energy
+        (lower-leaver z k t f l (leavers-rise z rise (z .kept) k) (subst (λ x. Good x) energy (good i h)) (subst (λ s. getD f (z .kept) 0 < s) note less))
+
     leads : (k i : ℕ) (f : List ℕ) → Back z k i f → LeadsBack z k i f
     leads k i f b = record { legal = b .legal; ends = own-choice k f (b .legal) ∙ ap (λ r. getD (windows z k) r []) (b .at); sum = b .sum }
 
@@ -139,6 +156,7 @@ module _ (z : Scan) where
           notes-follow = λ k i h b. notes-follow z n k i h (in-block (suc k) i b);
           needed = (length-energy-table z n, length-note-table z n);
           least = λ g k i h b. least-of (suc k) i (good-rows g (suc k) h) (in-block (suc k) i b);
+          lowest-leaver = λ g k i h b. lower-left k i (good-rows g (suc k) h) (in-block (suc k) i b);
           leads-back = λ k i h b. leads (suc k) i (trace z (suc k) i) (leads-back z (suc k) i (earlier k h) rise (in-block (suc k) i b));
           legal-layout = last .legal;
           answered-sum = answered-sum;

@@ -2,7 +2,7 @@
 -- Block k is written after the k-th bay; block 0 has no row, and 0.0 stands for the sum of no bay. Assumes nothing.
 use mathlib.Core.Bool.{true, cond}
 use mathlib.Core.List.{List, [], _∷_, _++_}
-use Prim.Native.Nat.{ℕ, zero, suc, _+_, _*_, _/_, _%_}
+use Prim.Native.Nat.{ℕ, zero, suc, _+_, _*_, _%_}
 use lib.Ieee.{Float, binary64, inf, ofBits, add, lt}
 use lib.ListN.{length, getD}
 use Rattle.floats.specs.declared.Choice.{Choice}

@@ -5,7 +5,7 @@ use mathlib.Core.Logic.{_↔_}
 use mathlib.Core.Bool.{true}
 use mathlib.Core.List.{List, [], _∷_, _++_, map}
 use Prim.Native.Nat.{ℕ, zero, suc, _+_, _<_}
-use lib.Ieee.{Float, lt, le}
+use lib.Ieee.{lt, le}
 use lib.ListN.{length, getD, take}
 use Rattle.floats.specs.Values.{Good, Bad}
 use Rattle.ledger_rows.specs.Scan.{Scan, Legal, scanSum}
@@ -62,6 +62,9 @@ pub record LeastEnergyTheorem (z : Scan) (n : ℕ) : Type 0 where
   pub least : Answered z n → (k i : ℕ) → k < n → i < length (windows z (suc k)) → LeastOf z (suc k) i
   -- "and the noted strands lead back to such a filling, whose scan sum is that energy to the bit"
   pub leads-back : (k i : ℕ) → k < n → i < length (windows z (suc k)) → LeadsBack z (suc k) i (trace z (suc k) i)
+  -- "an equal one never replaces, so the lowest leaving strand stays": a filling from which a lower strand left has a larger scan sum
+  pub lowest-leaver : Answered z n → (k i : ℕ) → k < n → i < length (windows z (suc k)) → (f : List ℕ) → Legal z (suc k) f → EndsIn z (suc k) i f
+      → getD f (suc (z .kept)) 0 < getD (notes z (suc k)) i 0 → lt (heldAt (energies z (suc k)) i) (scanSum z f) ≡ true
   -- "so the layout is legal, its scan sum is the answer, and no legal layout has a smaller scan sum"
   pub legal-layout : Legal z n (layout z n)
   pub answered-sum : scanSum z (layout z n) ≡ answer z n

@@ -1,6 +1,6 @@
 -- `ledger::back::step_back` meets its contract: each number of the code is the scan's. Assumes nothing.
 use mathlib.Core.Path.{_≡_, sym, ap, _∙_, subst}
-use Prim.Native.Nat.{ℕ, _+_, _-_, _*_, _/_, _≤_, _<_}
+use Prim.Native.Nat.{_+_, _-_, _*_, _/_, _≤_, _<_}
 use native.Mathlib.Omega.{arith}
 use lib.ListN.{length, getD}
 use denote.Ref.{now}
@@ -10,7 +10,7 @@ use Rattle.ledger_rows.specs.Blocks.{leavers, need, size}
 use Rattle.ledger_rows.specs.Trace.{below}
 use Rattle.ledger_fill.specs.Handed.{strandsOf, setScan}
 use Rattle.ledger_fill.specs.Bays.{leavingOf}
-use Rattle.ledger.proofs.Backing.{count-some, rows-are, end-is, row-in, all-few, width-is, width-small, from-is, place-in, position-is, product-few, row-few, leaves-few, stepped}
+use Rattle.ledger.proofs.Backing.{count-some, end-is, width-is, from-is, place-in, position-is, product-few, row-few, leaves-few, stepped}
 use Rattle.ledger.proofs.back.step_back.Statement.{statement}
 use Rattle.ledger.proofs.back.step_back.Tie as tie
 

@@ -1,10 +1,10 @@
 -- `ledger::back::trace` meets its contract. The invariant: the strands from bay k on are written. Assumes nothing.
-use mathlib.Core.Path.{_≡_, sym, ap, subst}
-use Prim.Native.Nat.{ℕ, suc, _+_, _-_, _≤_, _<_}
+use mathlib.Core.Path.{_≡_, subst}
+use Prim.Native.Nat.{_+_, _-_, _<_}
 use native.Mathlib.Omega.{arith}
 use lib.ListN.{length}
 use denote.Ref.{now}
-use borrow.Author.Needs.{needs, scaled-fits}
+use borrow.Author.Needs.{scaled-fits}
 use Rattle.ledger.proofs.Tracking.{Tracking, tracking-starts, tracked-bay, tracking-turns, tracking-ends}
 use Rattle.ledger.proofs.back.trace.Statement.{statement}
 use Rattle.ledger.proofs.back.trace.Tie as tie

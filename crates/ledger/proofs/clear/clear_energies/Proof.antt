@@ -1,11 +1,11 @@
 -- `ledger::clear::clear_energies` meets its contract. The invariant: the first i places are cleared, and the rest is as it was. Assumes nothing.
 use mathlib.Core.Path.{_≡_, ap, _∙_}
-use Prim.Native.Nat.{ℕ, _+_, _-_, _≤_, _<_}
+use Prim.Native.Nat.{_-_, _≤_, _<_}
 use native.Mathlib.Omega.{arith}
 use lib.Ieee.{binary64, ofBits}
 use lib.ListN.{length, replicate}
 use denote.Ref.{now}
-use borrow.Author.Needs.{needs, scaled-fits}
+use borrow.Author.Needs.{scaled-fits}
 use Rattle.ledger_fill.specs.Bays.{over}
 use Rattle.ledger.proofs.Clearing.{clearing-starts, clearing-long, clearing-turns}
 use Rattle.ledger.proofs.clear.clear_energies.Statement.{statement}

@@ -1,10 +1,9 @@
 -- `ledger::clear::clear_notes` meets its contract. The invariant: the first i places are cleared, and the rest is as it was. Assumes nothing.
 use mathlib.Core.Path.{_≡_, ap, _∙_}
-use Prim.Native.Nat.{ℕ, _+_, _-_, _≤_, _<_}
+use Prim.Native.Nat.{_-_, _≤_, _<_}
 use native.Mathlib.Omega.{arith}
 use lib.ListN.{length, replicate}
 use denote.Ref.{now}
-use borrow.Author.Needs.{needs}
 use Rattle.ledger_fill.specs.Bays.{over}
 use Rattle.ledger.proofs.Clearing.{clearing-starts, clearing-long, clearing-turns}
 use Rattle.ledger.proofs.clear.clear_notes.Statement.{statement}

@@ -1,5 +1,4 @@
 -- `ledger::read::member` meets its contract. The invariant: how many steps are left to the position. Assumes nothing.
-use Prim.Native.Nat.{_+_, _-_, _≤_, _<_}
 use native.Mathlib.Omega.{arith}
 use borrow.Author.Needs.{needs}
 use Rattle.ledger.proofs.Walking.{Stepping, stepping-starts, stepping-small, stepping-turns, stepping-ends}

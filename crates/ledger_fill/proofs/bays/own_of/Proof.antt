@@ -1,8 +1,4 @@
 -- `ledger_fill::bays::own_of` meets its contract: each field is the definition's. Assumes nothing.
-use mathlib.Core.Path.{_≡_, ap}
-use lib.Ieee.{Float, nan}
-use lib.ListN.{getD}
-use denote.Ref.{now}
 use borrow.Author.Needs.{needs}
 use Rattle.ledger_fill.proofs.bays.own_of.Statement.{statement}
 use Rattle.ledger_fill.proofs.bays.own_of.Tie as tie

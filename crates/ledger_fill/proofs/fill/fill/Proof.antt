@@ -1,10 +1,9 @@
 -- `ledger_fill::fill::fill` meets its contract. The invariant: the blocks of the first k bays are written. Assumes nothing.
-use mathlib.Core.Path.{_≡_, refl, sym, ap, subst}
-use Prim.Native.Nat.{ℕ, _+_, _-_, _*_, _≤_, _<_}
+use mathlib.Core.Path.{_≡_, refl}
+use Prim.Native.Nat.{_+_, _-_, _*_, _≤_, _<_}
 use native.Mathlib.Omega.{arith}
 use lib.ListN.{length}
 use denote.Ref.{now}
-use borrow.Author.Needs.{needs}
 use Rattle.ledger_fill.specs.Handed.{strandsOf}
 use Rattle.ledger_fill.specs.Bays.{Writable}
 use Rattle.ledger_fill.proofs.Filling.{Filling, filling-starts, energies-whole, notes-whole, fill-comes, bay-in, here-long, bay-writable, previous-some, filling-turns, filling-ends}

@@ -1,12 +1,11 @@
 -- `ledger_fill::fill::need` meets its contract. The invariant: the rows of the first k bays are counted. Assumes nothing.
 use mathlib.Core.Path.{_≡_}
 use mathlib.Core.List.{List, []}
-use Prim.Native.Nat.{ℕ, suc, _+_, _-_, _≤_, _<_}
+use Prim.Native.Nat.{ℕ, suc, _+_, _-_}
 use native.Mathlib.Omega.{arith}
 use lib.Ieee.{Float}
 use lib.ListN.{length}
 use denote.Ref.{now}
-use borrow.Author.Needs.{needs}
 use Rattle.ledger_rows.specs.Blocks.{size}
 use Rattle.ledger_fill.specs.Handed.{setScan}
 use Rattle.ledger_fill.proofs.Sizes.{Coming, Counting, counting-starts, counting-comes, counting-turns, too-many, counting-ends, bay-small, bay-rows, rows-small}

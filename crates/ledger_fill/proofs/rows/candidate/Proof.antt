@@ -1,8 +1,7 @@
 -- `ledger_fill::rows::candidate` meets its contract. Assumes nothing.
-use mathlib.Core.Path.{_≡_, ap₂}
+use mathlib.Core.Path.{ap₂}
 use lib.Ieee.{Float, binary64, add}
 use borrow.Author.Needs.{needs}
-use Rattle.floats.specs.declared.Choice.{Choice}
 use Rattle.ledger_fill.proofs.rows.candidate.Statement.{statement}
 use Rattle.ledger_fill.proofs.rows.candidate.Tie as tie
 
