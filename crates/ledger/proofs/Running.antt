@@ -1,7 +1,7 @@
 -- What a filled ledger holds, for the least row, the way back, and the clearing after a bad answer. Assumes nothing.
 use mathlib.Core.Path.{_≡_, refl, sym, ap, ap₂, _∙_, subst}
 use mathlib.Core.Bool.{true, false, cond}
-use mathlib.Core.List.{List, [], _∷_, _++_}
+use mathlib.Core.List.{List, _∷_, _++_}
 use Prim.Native.Nat.{ℕ, zero, suc, _+_, _-_, _*_, _/_, _%_, _≤_, _<_}
 use native.Mathlib.Nat.{zero-add}
 use native.Mathlib.Numerals.{add-one}
@@ -18,12 +18,13 @@ use Rattle.ledger_rows.specs.Trace.{below, rowBefore, trace, answerRow, answer,
 use Rattle.ledger_rows.proofs.Numbering.{size-some}
 use Rattle.ledger_rows.proofs.Rows.{length-energies}
 use Rattle.ledger_rows.proofs.Tables.{length-energy-table, length-note-table, notes-follow}
+use Rattle.ledger_rows.proofs.Agreeing.{size-same, need-same, leavers-same}
 use Rattle.ledger_rows.proofs.Answering.{answer-inside, note-leaves}
 use Rattle.ledger_fill.specs.declared.fill.Last.{Last}
-use Rattle.ledger_fill.specs.Handed.{strandsOf, setScan, runScan, Fillable}
+use Rattle.ledger_fill.specs.Handed.{strandsOf, addedOf, setScan, runScan, Fillable}
 use Rattle.ledger_fill.specs.Bays.{over, part}
 use Rattle.ledger_fill.specs.Last.{lastOf}
-use Rattle.ledger_fill.proofs.Filling.{size-same, need-same, leavers-same, block-within, block-before}
+use Rattle.ledger_fill.proofs.Filling.{block-within, block-before}
 use Rattle.ledger_fill.proofs.Over.{length-over}
 use Rattle.ledger_fill.proofs.Sizes.{need-mono, need-more}
 use Rattle.ledger.specs.Tracing.{inOrder, traceIn, Traceable}
@@ -52,13 +53,13 @@ module _ (window : ℕ) (sets : List ℕ) (bays major side : List Float) where
   n = length sets
 
   size-is : (k j : ℕ) → size zs k j ≡ size z k j
-  size-is = size-same window sets (λ k. []) (λ k. take 64 (drop (k * 64) bays)) [] major [] side
+  size-is = size-same zs (addedOf window (λ k. take 64 (drop (k * 64) bays)) major side)
 
   pub need-is : (k : ℕ) → need zs k ≡ need z k
-  need-is = need-same window sets (λ k. []) (λ k. take 64 (drop (k * 64) bays)) [] major [] side
+  need-is = need-same zs (addedOf window (λ k. take 64 (drop (k * 64) bays)) major side)
 
   leavers-are : (j k : ℕ) → leavers zs j k ≡ leavers z j k
-  leavers-are = leavers-same window sets (λ k. []) (λ k. take 64 (drop (k * 64) bays)) [] major [] side
+  leavers-are = leavers-same zs (addedOf window (λ k. take 64 (drop (k * 64) bays)) major side)
 
   -- ---- the last block
   module _ (energies₀ : List Float) (notes₀ : List ℕ) (some : 0 < n) (fit : Fillable window sets bays (length energies₀) (length notes₀)) where

@@ -6,40 +6,22 @@ use native.Mathlib.Nat.{zero-add}
 use native.Mathlib.Numerals.{add-one}
 use native.Mathlib.Omega.{arith}
 use lib.Ieee.{Float}
-use lib.ListN.{length, getD, take, drop, length-append, length-drop}
+use lib.ListN.{length, take, drop, length-append, length-drop}
 use lib.Seq.{take-at, drop-at, length-take-le}
 use Rattle.floats.specs.declared.Choice.{Choice}
 use Rattle.ledger_rows.specs.Scan.{Scan}
-use Rattle.ledger_rows.specs.Blocks.{flat, size, leavers, blockOf, energies, notes, need, energyTable, noteTable}
+use Rattle.ledger_rows.specs.Blocks.{flat, size, blockOf, energies, notes, need, energyTable, noteTable}
+use Rattle.ledger_rows.proofs.Agreeing.{need-same}
 use Rattle.ledger_rows.proofs.Lists.{flat-none, flat-more}
 use Rattle.ledger_rows.proofs.Rows.{length-energies, length-notes}
 use Rattle.ledger_rows.proofs.Tables.{length-energy-table, length-note-table}
 use Rattle.ledger_fill.specs.declared.bays.Bay.{Bay}
-use Rattle.ledger_fill.specs.Handed.{strandsOf, scanOf, setScan, runScan, Fillable}
+use Rattle.ledger_fill.specs.Handed.{strandsOf, addedOf, setScan, runScan, Fillable}
 use Rattle.ledger_fill.specs.Last.{lastOf}
 use Rattle.ledger_fill.specs.Bays.{over, part, Writable, leavingOf, bayOf, bayBlock}
 use Rattle.ledger_fill.proofs.Over.{over-none, length-over, over-over}
 use Rattle.ledger_fill.proofs.Agrees.{block-is}
 use Rattle.ledger_fill.proofs.Sizes.{need-mono, Coming, Counting, counting-starts, counting-comes, counted, counting-turns, bay-small, bay-is, bay-rows}
-
--- ---- sizes depend on the window and the sets alone
-module _ (window : ℕ) (sets : List ℕ) (rows rows′ : ℕ → List Float) (major major′ side side′ : List Float) where
-  pub size-same : (k j : ℕ) → size (scanOf window sets rows major side) k j ≡ size (scanOf window sets rows′ major′ side′) k j
-  unfolding size
-  size-same zero j = refl
-  size-same (suc k) zero = refl
-  size-same (suc k) (suc j) = ap (λ w. w * length (strandsOf (getD sets k 0))) (size-same k j)
-
-  pub need-same : (k : ℕ) → need (scanOf window sets rows major side) k ≡ need (scanOf window sets rows′ major′ side′) k
-  unfolding need
-  need-same zero = refl
-  need-same (suc k) = ap₂ (λ a b. a + b) (need-same k) (size-same (suc k) (suc (window - 1)))
-
-  pub leavers-same : (j k : ℕ) → leavers (scanOf window sets rows major side) j k ≡ leavers (scanOf window sets rows′ major′ side′) j k
-  unfolding leavers
-  leavers-same j zero = refl
-  leavers-same zero (suc k) = refl
-  leavers-same (suc j) (suc k) = leavers-same j k
 
 -- ---- what stands right before the end
 part-middle : {A : Type 0} (xs ys rest : List A) (from end : ℕ) → length xs ≡ from → end ≡ from + length ys → part from end ((xs ++ ys) ++ rest) ≡ ys
@@ -120,7 +102,7 @@ module _ (window : ℕ) (sets : List ℕ) (bays major side energies₀ : List Fl
       }
 
   same-need : need z (length sets) ≡ need (setScan window sets) (length sets)
-  same-need = need-same window sets (bayRows bays) (λ k. []) major [] side [] (length sets)
+  same-need = need-same z (addedOf window (λ k. []) [] []) (length sets)
 
   module _ (energies′ : List Float) (notes′ : List ℕ) (rows from end k : ℕ) (l : Filling window sets bays major side energies₀ energies′ notes₀ notes′ rows from end k) where
     so-far : need z k ≤ need (setScan window sets) (length sets)

@@ -7,3 +7,4 @@ pub mod Blocking
 pub mod Agrees
 pub mod Sizes
 pub mod Filling
+pub mod Tabled
