@@ -1,11 +1,12 @@
 -- How many rows each block has, as the code goes from bay to bay: the width by division, the rows by a product that stays small. Assumes nothing.
 use mathlib.Core.Path.{_≡_, refl, sym, ap, ap₂, _∙_, subst}
+use mathlib.Core.Logic.{_↔_}
 use mathlib.Core.Bool.{cond}
 use mathlib.Core.List.{List}
 use Prim.Native.Nat.{ℕ, suc, _+_, _-_, _*_, _/_, _≤_, _<_}
 use native.Mathlib.Nat.{mul-div-cancel-left, mul-le-mul}
 use native.Mathlib.Numerals.{add-one}
-use native.Mathlib.Decide.{le-ind}
+use native.Mathlib.Decide.{le-ind, decLe}
 use native.Mathlib.Omega.{arith}
 use lib.Ieee.{Float}
 use lib.ListN.{length, getD}
@@ -51,6 +52,13 @@ capped-in n h = sym (ap (λ b. cond b n 1048577) (le-leb n 1048576 h))
 
 pub capped-out : (n : ℕ) → 1048576 < n → 1048577 ≡ capped n
 capped-out n h = sym (ap (λ b. cond b n 1048577) (lt-leb n 1048576 h))
+
+-- the limit is passed exactly where the cap says so, and below it the cap changes nothing
+pub capped-exact : (n : ℕ) → (1048576 < capped n) ↔ (1048576 < n)
+capped-exact n = (λ h. elim (decLe n 1048576) [ yes l ↦ absurd (omega (arith, capped-in n l)) | no l ↦ omega arith ], λ h. omega (arith, capped-out n h))
+
+pub capped-small : (n : ℕ) → capped n ≤ 1048576 → capped n ≡ n
+capped-small n h = elim (decLe n 1048576) [ yes l ↦ sym (capped-in n l) | no l ↦ absurd (omega (arith, capped-out n (omega arith))) ]
 
 -- ---- the sizes that the code goes through
 module _ (window : ℕ) (sets : List ℕ) (rows : ℕ → List Float) (major side : List Float) where
