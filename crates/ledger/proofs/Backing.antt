@@ -22,8 +22,14 @@ use Rattle.ledger.specs.Tracing.{Traceable}
 use Rattle.ledger.specs.Places.{placeOf, rowBack}
 use Rattle.ledger.proofs.Position.{below-members, below-past}
 
-module _ (window : ℕ) (sets notes : List ℕ) (t : Traceable window sets notes) (k : ℕ) (h : k < length sets) (at : Place) (e : at ≡ placeOf (setScan window sets) (k + 1) (at .row))
-    (l : at .row < size (setScan window sets) (k + 1) (suc (window - 1))) where
+-- a step back begins at a row of bay k's block, in a table that can be gone back through
+pub record OnRow (window : ℕ) (sets notes : List ℕ) (k : ℕ) (at : Place) : Type 0 where
+  pub tables : Traceable window sets notes
+  pub bay : k < length sets
+  pub place : at ≡ placeOf (setScan window sets) (k + 1) (at .row)
+  pub inside : at .row < size (setScan window sets) (k + 1) (suc (window - 1))
+
+module _ {window : ℕ} {sets notes : List ℕ} {k : ℕ} {at : Place} (o : OnRow window sets notes k at) where
   abbrev z : Scan
   z = setScan window sets
 
@@ -34,35 +40,35 @@ module _ (window : ℕ) (sets notes : List ℕ) (t : Traceable window sets notes
   count = length (strandsOf (getD sets k 0))
 
   pub count-some : 0 < count
-  count-some = t .filled k h
+  count-some = o .tables .filled k (o .bay)
 
   pub rows-are : at .rows ≡ w * count
-  rows-are = ap (λ (p : Place). p .rows) e ∙ ap (λ i. size z i (suc (window - 1))) (add-one k) ∙ size-more z k (window - 1)
+  rows-are = ap (λ (p : Place). p .rows) (o .place) ∙ ap (λ i. size z i (suc (window - 1))) (add-one k) ∙ size-more z k (window - 1)
 
   pub end-is : at .end ≡ need z k + at .rows
-  end-is = ap (λ (p : Place). p .end) e ∙ need-more z k ∙ ap (λ i. need z k + i) (sym (ap (λ (p : Place). p .rows) e))
+  end-is = ap (λ (p : Place). p .end) (o .place) ∙ need-more z k ∙ ap (λ i. need z k + i) (sym (ap (λ (p : Place). p .rows) (o .place)))
 
   pub row-in : at .row < at .rows
-  row-in = subst (λ i. at .row < i) (sym (ap (λ (p : Place). p .rows) e)) l
+  row-in = subst (λ i. at .row < i) (sym (ap (λ (p : Place). p .rows) (o .place))) (o .inside)
 
   pub all-few : need z k + at .rows ≤ need z (length sets)
-  all-few = omega (arith, end-is, ap (λ (p : Place). p .end) e, need-mono z (k + 1) (length sets) (omega arith))
+  all-few = omega (arith, end-is, ap (λ (p : Place). p .end) (o .place), need-mono z (k + 1) (length sets) (omega (arith, o .bay)))
 
   pub width-is : (n : ℕ) → n ≡ count → at .rows / n ≡ w
   width-is n f = ap₂ (λ (a b : ℕ). a / b) rows-are f ∙ mul-div-cancel w count-some
 
   pub width-small : w ≤ 1048576
-  width-small = omega (arith, rows-are, mul-le-mul {n₁ = w} {m₁ = 1} {n₂ = w} {m₂ = count} (omega arith) count-some, all-few, t .few-rows)
+  width-small = omega (arith, rows-are, mul-le-mul {n₁ = w} {m₁ = 1} {n₂ = w} {m₂ = count} (omega arith) count-some, all-few, o .tables .few-rows)
 
   pub from-is : at .end - at .rows ≡ need z k
   from-is = omega (arith, end-is)
 
   pub place-in : at .end - at .rows + at .row < length notes
-  place-in = omega (arith, end-is, row-in, all-few, t .noted-all)
+  place-in = omega (arith, end-is, row-in, all-few, o .tables .noted-all)
 
   -- the note is a strand that leaves
   noted : below (leavers z (window - 1) k) (getD notes (need z k + at .row) 0) < length (leavers z (window - 1) k)
-  noted = t .noted k (at .row) h (subst (λ i. at .row < size z i (suc (window - 1))) (add-one k) l)
+  noted = o .tables .noted k (at .row) (o .bay) (subst (λ i. at .row < size z i (suc (window - 1))) (add-one k) (o .inside))
 
   same-note : getD notes (at .end - at .rows + at .row) 0 ≡ getD notes (need z k + at .row) 0
   same-note = ap (λ i. getD notes (i + at .row) 0) from-is
@@ -72,7 +78,7 @@ module _ (window : ℕ) (sets notes : List ℕ) (t : Traceable window sets notes
   position-is = go (getD notes (need z k + at .row) 0) same-note noted (decLt (getD notes (need z k + at .row) 0) 64)
     where
       same : strandsOf (leavingOf window sets k) ≡ leavers z (window - 1) k
-      same = leaving-is window sets (λ i. []) [] [] k (t .some-window)
+      same = leaving-is window sets (λ i. []) [] [] k (o .tables .some-window)
 
       go : (s : ℕ) → getD notes (at .end - at .rows + at .row) 0 ≡ s → below (leavers z (window - 1) k) s < length (leavers z (window - 1) k) → Dec (s < 64)
           → length (members (has (leavingOf window sets k)) (getD notes (at .end - at .rows + at .row) 0)) ≡ below (leavers z (window - 1) k) s
@@ -87,13 +93,13 @@ module _ (window : ℕ) (sets notes : List ℕ) (t : Traceable window sets notes
 
   leaving-few : length (leavers z (window - 1) k) ≤ 64
   leaving-few =
-      subst (λ m. length m ≤ 64) (leaving-is window sets (λ i. []) [] [] k (t .some-window)) (length-le (has (leavingOf window sets k)) 64)
+      subst (λ m. length m ≤ 64) (leaving-is window sets (λ i. []) [] [] k (o .tables .some-window)) (length-le (has (leavingOf window sets k)) 64)
 
   pub product-few : (p : ℕ) → p ≡ below (leavers z (window - 1) k) (getD notes (need z k + at .row) 0) → p * w ≤ 67108864
   product-few p f = omega (arith, mul-le-mul {n₁ = p} {m₁ = w} {n₂ = 64} {m₂ = 1048576} (omega (arith, noted, leaving-few)) width-small)
 
   pub row-few : (n : ℕ) → at .row / n ≤ 1048576
-  row-few n = omega (arith, div-le-self (at .row) n, row-in, all-few, t .few-rows)
+  row-few n = omega (arith, div-le-self (at .row) n, row-in, all-few, o .tables .few-rows)
 
   pub leaves-few : (n : ℕ) → n ≡ length (strandsOf (leavingOf window sets k)) → n * w ≤ 67108864
   leaves-few n f = omega (arith, mul-le-mul {n₁ = n} {m₁ = w} {n₂ = 64} {m₂ = 1048576} (omega (arith, length-le (has (leavingOf window sets k)) 64)) width-small)
@@ -102,6 +108,6 @@ module _ (window : ℕ) (sets notes : List ℕ) (t : Traceable window sets notes
       → record { row = p * width + at .row / n; rows = m * width; end = from } ≡ placeOf z k (rowBack z notes k (at .row))
   stepped n p m from width a b c d f =
       let rows : m * width ≡ size z k (suc (window - 1)) =
-      ap₂ (λ (x y : ℕ). x * y) (c ∙ ap length (leaving-is window sets (λ i. []) [] [] k (t .some-window))) d ∙ sym (size-leavers z (window - 1) k) in
+      ap₂ (λ (x y : ℕ). x * y) (c ∙ ap length (leaving-is window sets (λ i. []) [] [] k (o .tables .some-window))) d ∙ sym (size-leavers z (window - 1) k) in
       let row : p * width + at .row / n ≡ rowBack z notes k (at .row) = rw (b, d, a) in
       ap₂ (λ (x y : ℕ). record { row = x; rows = y; end = from }) row rows ∙ ap (λ (x : ℕ). record { row = rowBack z notes k (at .row); rows = size z k (suc (window - 1)); end = x }) f
