@@ -52,9 +52,9 @@ module _ (own : Own) (major before : List Float) (leaving width q : ℕ) where
           absurd (omega arith)
 
   -- behind it the loop begins
-  pub starts : (s u : ℕ) (choice : Choice) → 0 < length (strandsOf leaving) → s ≡ nextOf (has leaving) 0 64 → u ≡ nextOf (has leaving) (s + 1) 64
+  pub starts : {s u : ℕ} {choice : Choice} → 0 < length (strandsOf leaving) → s ≡ nextOf (has leaving) 0 64 → u ≡ nextOf (has leaving) (s + 1) 64
       → choice ≡ leftBy own major before q s → Leaving own major before leaving width q u (q + width) choice
-  starts s u choice some e n held =
+  starts {s} {u} some e n held =
       let f = first s some e in
       let none : length (members (has leaving) s) ≡ 0 = ap length (f .2) in
       let moved = step (has leaving) 64 s u (begin (has leaving) 64 s e .0) (f .0) n in
@@ -70,10 +70,11 @@ module _ (own : Own) (major before : List Float) (leaving width q : ℕ) where
             ∙ ap (lowest nextOne) (sym one);
       }
 
+module _ {own : Own} {major before : List Float} {leaving width q s i : ℕ} {choice : Choice} (l : Leaving own major before leaving width q s i choice) where
   -- and goes from strand to strand
-  pub turns : (s u i : ℕ) (choice chosen came : Choice) → Leaving own major before leaving width q s i choice → s < 64 → u ≡ nextOf (has leaving) (s + 1) 64
+  pub turns : {u : ℕ} {chosen came : Choice} → s < 64 → u ≡ nextOf (has leaving) (s + 1) 64
       → came ≡ leftBy own major before i s → chosen ≡ lower choice came → Leaving own major before leaving width q u (i + width) chosen
-  turns s u i choice chosen came l h n c e =
+  turns {u} h n c e =
       let moved = step (has leaving) 64 s u (l .stands) h n in
       let a = length (members (has leaving) s) in
       let more : length (members (has leaving) u) ≡ a + 1 = ap length (moved .added) ∙ length-append (members (has leaving) s) (s ∷ []) in
@@ -81,16 +82,16 @@ module _ (own : Own) (major before : List Float) (leaving width q : ℕ) where
         stands = moved .stands;
         place = rw more (omega (arith, l .place));
         held =
-            lowest-turn nextOne a (l .held) (e ∙ ap (lower choice) (c ∙ at-member s i h (l .stands .is-legal h) (l .place)))
-            ∙ ap (lowest nextOne) (sym more);
+            lowest-turn (nextOne own major before leaving width q) a (l .held) (e ∙ ap (lower choice) (c ∙ at-member own major before leaving width q s i h (l .stands .is-legal h) (l .place)))
+            ∙ ap (lowest (nextOne own major before leaving width q)) (sym more);
       }
 
   -- until every strand has left
-  pub ends : (s i : ℕ) (choice : Choice) → Leaving own major before leaving width q s i choice → 64 ≤ s → choice ≡ ownRow own major before leaving width q
-  ends s i choice l h = l .held ∙ ap (λ m. lowest nextOne (length m)) (done (has leaving) 64 s (l .stands) h)
+  pub ends : 64 ≤ s → choice ≡ ownRow own major before leaving width q
+  ends h = l .held ∙ ap (λ m. lowest (nextOne own major before leaving width q) (length m)) (done (has leaving) 64 s (l .stands) h)
 
   -- the row's place stays small
-  pub place-small : (s i : ℕ) (choice : Choice) → Leaving own major before leaving width q s i choice → s < 64 → q < width → width ≤ 1048576 → i ≤ 68157440
-  place-small s i choice l h b w =
+  pub place-small : s < 64 → q < width → width ≤ 1048576 → i ≤ 68157440
+  place-small h b w =
       let few : length (members (has leaving) s) ≤ 64 = omega (arith, length-le (has leaving) s) in
       omega (arith, l .place, mul-le-mul-right width few)

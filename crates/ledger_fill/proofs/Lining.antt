@@ -27,76 +27,81 @@ who-small own major before leaving width q some =
 
 -- the rows of the strands below t are written from `at` on, and j is the next place
 pub record Lining (line at : ℕ) (f : ℕ → Choice) (energies₀ energies : List Float) (notes₀ notes : List ℕ) (t j : ℕ) : Type 0 where
+  pub energies-fit : at + length (strandsOf line) ≤ length energies₀
+  pub notes-fit : at + length (strandsOf line) ≤ length notes₀
   pub stands : Standing (has line) 64 t
   pub place : j ≡ at + length (members (has line) t)
   pub energies-are : energies ≡ over energies₀ at (tab (λ p. f p .energy) (length (members (has line) t)))
   pub notes-are : notes ≡ over notes₀ at (tab (λ p. f p .who) (length (members (has line) t)))
 
-module _ (line at : ℕ) (f : ℕ → Choice) (energies₀ : List Float) (notes₀ : List ℕ)
-    (fit : at + length (strandsOf line) ≤ length energies₀) (fit-too : at + length (strandsOf line) ≤ length notes₀) where
-  pub line-starts : (t : ℕ) → t ≡ nextOf (has line) 0 64 → Lining line at f energies₀ energies₀ notes₀ notes₀ t at
-  line-starts t e =
-      let b = begin (has line) 64 t e in
-      let none : length (members (has line) t) ≡ 0 = ap length (b .1) in
+pub line-starts : (line at : ℕ) (f : ℕ → Choice) (energies₀ : List Float) (notes₀ : List ℕ) (t : ℕ) → at + length (strandsOf line) ≤ length energies₀
+    → at + length (strandsOf line) ≤ length notes₀ → t ≡ nextOf (has line) 0 64 → Lining line at f energies₀ energies₀ notes₀ notes₀ t at
+line-starts line at f energies₀ notes₀ t fit fit-too e =
+    let b = begin (has line) 64 t e in
+    let none : length (members (has line) t) ≡ 0 = ap length (b .1) in
+    record {
+      energies-fit = fit;
+      notes-fit = fit-too;
+      stands = b .0;
+      place = rw none (sym (add-zero at));
+      energies-are = rw none (sym (ap (over energies₀ at) (tab-none (λ p. f p .energy)) ∙ over-none energies₀ at));
+      notes-are = rw none (sym (ap (over notes₀ at) (tab-none (λ p. f p .who)) ∙ over-none notes₀ at));
+    }
+
+module _ {line at : ℕ} {f : ℕ → Choice} {energies₀ energies : List Float} {notes₀ notes : List ℕ} {t j : ℕ} (l : Lining line at f energies₀ energies notes₀ notes t j) where
+  -- fewer strands are below t than there are
+  few : t < 64 → length (members (has line) t) < length (strandsOf line)
+  few h = length-less (has line) t 64 h (l .stands .is-legal h)
+
+  at-most : length (members (has line) t) ≤ length (strandsOf line)
+  at-most = length-mono (has line) t 64 (l .stands .within)
+
+  pub energies-long : length energies ≡ length energies₀
+  energies-long =
+      ap length (l .energies-are) ∙ length-over energies₀ at (tab (λ p. f p .energy) (length (members (has line) t))) (omega (arith, length-tab (λ p. f p .energy) (length (members (has line) t)), at-most, l .energies-fit, l .notes-fit))
+
+  pub notes-long : length notes ≡ length notes₀
+  notes-long =
+      ap length (l .notes-are) ∙ length-over notes₀ at (tab (λ p. f p .who) (length (members (has line) t))) (omega (arith, length-tab (λ p. f p .who) (length (members (has line) t)), at-most, l .energies-fit, l .notes-fit))
+
+  pub energies-room : t < 64 → j < length energies
+  energies-room h = omega (arith, l .place, few h, energies-long, l .energies-fit)
+
+  pub notes-room : t < 64 → j < length notes
+  notes-room h = omega (arith, l .place, few h, notes-long, l .notes-fit)
+
+  -- the strand at the next position is t
+  pub line-strand : t < 64 → t ≡ getD (strandsOf line) (length (members (has line) t)) 0
+  line-strand h = sym (member-at (has line) 64 t 0 h (l .stands .is-legal h))
+
+  pub line-turns : (u : ℕ) (best : Choice) → t < 64 → u ≡ nextOf (has line) (t + 1) 64 → best ≡ f (length (members (has line) t))
+      → Lining line at f energies₀ (set energies j (best .energy)) notes₀ (set notes j (best .who)) u (j + 1)
+  line-turns u best h n e =
+      let moved = step (has line) 64 t u (l .stands) h n in
+      let a = length (members (has line) t) in
+      let more : length (members (has line) u) ≡ a + 1 = ap length (moved .added) ∙ length-append (members (has line) t) (t ∷ []) in
       record {
-        stands = b .0;
-        place = rw none (sym (add-zero at));
-        energies-are = rw none (sym (ap (over energies₀ at) (tab-none (λ p. f p .energy)) ∙ over-none energies₀ at));
-        notes-are = rw none (sym (ap (over notes₀ at) (tab-none (λ p. f p .who)) ∙ over-none notes₀ at));
+        energies-fit = l .energies-fit;
+        notes-fit = l .notes-fit;
+        stands = moved .stands;
+        place = rw more (omega (arith, l .place));
+        energies-are = rw more (written (λ c. c .energy) nan energies₀ energies (l .energies-are) (omega (arith, l .place, few h, l .energies-fit, l .notes-fit)) (l .place) e);
+        notes-are = rw more (written (λ c. c .who) 0 notes₀ notes (l .notes-are) (omega (arith, l .place, few h, l .energies-fit, l .notes-fit)) (l .place) e);
       }
+    where
+      written : {A : Type 0} (part : Choice → A) (d : A) (old new : List A) → new ≡ over old at (tab (λ p. part (f p)) (length (members (has line) t))) → j < length old
+          → j ≡ at + length (members (has line) t) → best ≡ f (length (members (has line) t))
+          → set new j (part best) ≡ over old at (tab (λ p. part (f p)) (length (members (has line) t) + 1))
+      written part d old new w room p b =
+          let n = length (members (has line) t) in
+          let xs = tab (λ i. part (f i)) n in
+          ap₂ (λ l c. set l j (part c)) w b
+          ∙ over-store old at xs j (part (f n)) d (p ∙ ap (λ i. at + i) (sym (length-tab (λ i. part (f i)) n))) room
+          ∙ ap (over old at) (sym (tab-more (λ i. part (f i)) n))
 
-  module _ (energies : List Float) (notes : List ℕ) (t j : ℕ) (l : Lining line at f energies₀ energies notes₀ notes t j) where
-    -- fewer strands are below t than there are
-    few : t < 64 → length (members (has line) t) < length (strandsOf line)
-    few h = length-less (has line) t 64 h (l .stands .is-legal h)
-
-    at-most : length (members (has line) t) ≤ length (strandsOf line)
-    at-most = length-mono (has line) t 64 (l .stands .within)
-
-    pub energies-long : length energies ≡ length energies₀
-    energies-long =
-        ap length (l .energies-are) ∙ length-over energies₀ at (tab (λ p. f p .energy) (length (members (has line) t))) (omega (arith, length-tab (λ p. f p .energy) (length (members (has line) t)), at-most))
-
-    pub notes-long : length notes ≡ length notes₀
-    notes-long =
-        ap length (l .notes-are) ∙ length-over notes₀ at (tab (λ p. f p .who) (length (members (has line) t))) (omega (arith, length-tab (λ p. f p .who) (length (members (has line) t)), at-most))
-
-    pub energies-room : t < 64 → j < length energies
-    energies-room h = omega (arith, l .place, few h, energies-long)
-
-    pub notes-room : t < 64 → j < length notes
-    notes-room h = omega (arith, l .place, few h, notes-long)
-
-    -- the strand at the next position is t
-    pub line-strand : t < 64 → t ≡ getD (strandsOf line) (length (members (has line) t)) 0
-    line-strand h = sym (member-at (has line) 64 t 0 h (l .stands .is-legal h))
-
-    pub line-turns : (u : ℕ) (best : Choice) → t < 64 → u ≡ nextOf (has line) (t + 1) 64 → best ≡ f (length (members (has line) t))
-        → Lining line at f energies₀ (set energies j (best .energy)) notes₀ (set notes j (best .who)) u (j + 1)
-    line-turns u best h n e =
-        let moved = step (has line) 64 t u (l .stands) h n in
-        let a = length (members (has line) t) in
-        let more : length (members (has line) u) ≡ a + 1 = ap length (moved .added) ∙ length-append (members (has line) t) (t ∷ []) in
-        record {
-          stands = moved .stands;
-          place = rw more (omega (arith, l .place));
-          energies-are = rw more (written (λ c. c .energy) nan energies₀ energies (l .energies-are) (omega (arith, l .place, few h)) (l .place) e);
-          notes-are = rw more (written (λ c. c .who) 0 notes₀ notes (l .notes-are) (omega (arith, l .place, few h)) (l .place) e);
-        }
-      where
-        written : {A : Type 0} (part : Choice → A) (d : A) (old new : List A) → new ≡ over old at (tab (λ p. part (f p)) (length (members (has line) t))) → j < length old
-            → j ≡ at + length (members (has line) t) → best ≡ f (length (members (has line) t))
-            → set new j (part best) ≡ over old at (tab (λ p. part (f p)) (length (members (has line) t) + 1))
-        written part d old new w room p b =
-            let n = length (members (has line) t) in
-            let xs = tab (λ i. part (f i)) n in
-            ap₂ (λ l c. set l j (part c)) w b
-            ∙ over-store old at xs j (part (f n)) d (p ∙ ap (λ i. at + i) (sym (length-tab (λ i. part (f i)) n))) room
-            ∙ ap (over old at) (sym (tab-more (λ i. part (f i)) n))
-
-    pub line-ends : 64 ≤ t → (energies ≡ over energies₀ at (tab (λ p. f p .energy) (length (strandsOf line)))) × (notes ≡ over notes₀ at (tab (λ p. f p .who) (length (strandsOf line))))
-    line-ends h =
-        let all = done (has line) 64 t (l .stands) h in (
-          l .energies-are ∙ ap (λ m. over energies₀ at (tab (λ p. f p .energy) (length m))) all,
-          l .notes-are ∙ ap (λ m. over notes₀ at (tab (λ p. f p .who) (length m))) all,
-        )
+  pub line-ends : 64 ≤ t → (energies ≡ over energies₀ at (tab (λ p. f p .energy) (length (strandsOf line)))) × (notes ≡ over notes₀ at (tab (λ p. f p .who) (length (strandsOf line))))
+  line-ends h =
+      let all = done (has line) 64 t (l .stands) h in (
+        l .energies-are ∙ ap (λ m. over energies₀ at (tab (λ p. f p .energy) (length m))) all,
+        l .notes-are ∙ ap (λ m. over notes₀ at (tab (λ p. f p .who) (length m))) all,
+      )

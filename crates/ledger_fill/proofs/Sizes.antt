@@ -61,76 +61,83 @@ pub capped-small : (n : ℕ) → capped n ≤ 1048576 → capped n ≡ n
 capped-small n h = elim (decLe n 1048576) [ yes l ↦ sym (capped-in n l) | no l ↦ absurd (omega (arith, capped-out n (omega arith))) ]
 
 -- ---- the sizes that the code goes through
-module _ (window : ℕ) (sets : List ℕ) (rows : ℕ → List Float) (major side : List Float) where
+-- what is known of bay k as it comes, behind a block with so many rows
+pub record Coming (window : ℕ) (sets : List ℕ) (rows : ℕ → List Float) (major side : List Float) (k before : ℕ) : Type 0 where
+  pub some-leave : 0 < length (strandsOf (leavingOf window sets k))
+  pub width-is : before / length (strandsOf (leavingOf window sets k)) ≡ size (scanOf window sets rows major side) k (window - 1)
+  pub small : size (scanOf window sets rows major side) k (window - 1) ≤ 1048576
+  pub rows-are : size (scanOf window sets rows major side) k (window - 1) * length (strandsOf (getD sets k 0)) ≡ size (scanOf window sets rows major side) (k + 1) (suc (window - 1))
+
+module _ {window : ℕ} {sets : List ℕ} {rows : ℕ → List Float} {major side : List Float} {k before : ℕ} (c : Coming window sets rows major side k before) {b : Bay}
+    (e : b ≡ bayOf window sets k (before / length (strandsOf (leavingOf window sets k)))) where
+  bay-width : b .width ≡ size (scanOf window sets rows major side) k (window - 1)
+  bay-width = ap (λ (b : Bay). b .width) e ∙ c .width-is
+
+  pub bay-is : b ≡ bayOf window sets k (size (scanOf window sets rows major side) k (window - 1))
+  bay-is = e ∙ ap (bayOf window sets k) (c .width-is)
+
+  pub bay-small : b .width ≤ 1048576
+  bay-small = subst (λ w. w ≤ 1048576) (sym bay-width) (c .small)
+
+  pub bay-rows : (r : ℕ) → r ≡ b .width * length (strandsOf (b .set)) → r ≡ size (scanOf window sets rows major side) (k + 1) (suc (window - 1))
+  bay-rows r f = f ∙ ap₂ (λ w s. w * length (strandsOf s)) bay-width (ap (λ (b : Bay). b .set) e) ∙ c .rows-are
+
+  pub rows-small : (r : ℕ) → r ≡ b .width * length (strandsOf (b .set)) → r ≤ 67108864
+  rows-small r f = subst (λ i. i ≤ 67108864) (sym f) (product-small (b .width) (b .set) bay-small)
+
+-- the rows of the first k of n bays are counted, and none is past the limit
+pub record Counting (window : ℕ) (sets : List ℕ) (rows : ℕ → List Float) (major side : List Float) (n k before used : ℕ) : Type 0 where
+  pub some-window : 0 < window
+  pub filled : Filled (scanOf window sets rows major side) n
+  pub within : k ≤ n
+  pub rows-are : before ≡ size (scanOf window sets rows major side) k (suc (window - 1))
+  pub used-is : used ≡ need (scanOf window sets rows major side) k
+  pub few-rows : before ≤ 1048576
+  pub few : used ≤ 1048576
+
+pub counting-starts : (window : ℕ) (sets : List ℕ) (rows : ℕ → List Float) (major side : List Float) (n : ℕ) → 0 < window → Filled (scanOf window sets rows major side) n
+    → Counting window sets rows major side n 0 1 0
+counting-starts window sets rows major side n pos some =
+    let z = scanOf window sets rows major side in
+    record {
+      some-window = pos;
+      filled = some;
+      within = omega arith;
+      rows-are = sym (size-first z (suc (window - 1)));
+      used-is = sym (need-none z);
+      few-rows = omega arith;
+      few = omega arith;
+    }
+
+module _ {window : ℕ} {sets : List ℕ} {rows : ℕ → List Float} {major side : List Float} {n k before used : ℕ} (l : Counting window sets rows major side n k before used) where
   abbrev z : Scan
   z = scanOf window sets rows major side
 
-  -- what is known of the bay that comes, behind a block with so many rows
-  pub record Coming (k before : ℕ) : Type 0 where
-    pub some-leave : 0 < length (strandsOf (leavingOf window sets k))
-    pub width-is : before / length (strandsOf (leavingOf window sets k)) ≡ size z k (window - 1)
-    pub small : size z k (window - 1) ≤ 1048576
-    pub rows-are : size z k (window - 1) * length (strandsOf (getD sets k 0)) ≡ size z (k + 1) (suc (window - 1))
+  pub counting-comes : k < n → Coming window sets rows major side k before
+  counting-comes h =
+      let same = leaving-is window sets rows major side k (l .some-window) in
+      let leave = subst (λ m. 0 < length m) (sym same) (leavers-some z (window - 1) k (λ i b. l .filled i (omega arith))) in
+      let count = length (strandsOf (leavingOf window sets k)) in
+      let split : before ≡ count * size z k (window - 1) = l .rows-are ∙ size-leavers z (window - 1) k ∙ ap (λ m. length m * size z k (window - 1)) (sym same) in
+      record {
+        some-leave = leave;
+        width-is = ap (λ i. i / count) split ∙ mul-div-cancel-left (size z k (window - 1)) leave;
+        small = quotient-small count (size z k (window - 1)) 1048576 leave (subst (λ i. i ≤ 1048576) split (l .few-rows));
+        rows-are = sym (size-more z k (window - 1)) ∙ ap (λ i. size z i (suc (window - 1))) (sym (add-one k));
+      }
 
-  -- ---- the rows of the first k of n bays are counted, and none is past the limit
-  pub record Counting (n k before used : ℕ) : Type 0 where
-    pub within : k ≤ n
-    pub rows-are : before ≡ size z k (suc (window - 1))
-    pub used-is : used ≡ need z k
-    pub few-rows : before ≤ 1048576
-    pub few : used ≤ 1048576
+  pub counted : {r : ℕ} → r ≡ size z (k + 1) (suc (window - 1)) → used + r ≡ need z (k + 1)
+  counted e = ap₂ (λ a b. a + b) (l .used-is) e ∙ sym (need-more z k)
 
-  module _ (pos : 0 < window) where
-    pub leaves-some : (k n : ℕ) → Filled z n → k < n → 0 < length (strandsOf (leavingOf window sets k))
-    leaves-some k n some h = subst (λ l. 0 < length l) (sym (leaving-is window sets rows major side k pos)) (leavers-some z (window - 1) k (λ i b. some i (omega arith)))
+  pub counting-turns : {r : ℕ} → k < n → r ≡ size z (k + 1) (suc (window - 1)) → used + r ≤ 1048576 → Counting window sets rows major side n (k + 1) r (used + r)
+  counting-turns h e few =
+      record { some-window = l .some-window; filled = l .filled; within = omega arith; rows-are = e; used-is = counted e; few-rows = omega arith; few = few }
 
-    pub coming : (k n before : ℕ) → Filled z n → k < n → before ≡ size z k (suc (window - 1)) → before ≤ 1048576 → Coming k before
-    coming k n before some h e small =
-        let leave = leaves-some k n some h in
-        let count = length (strandsOf (leavingOf window sets k)) in
-        let split : before ≡ count * size z k (window - 1) =
-        e ∙ size-leavers z (window - 1) k ∙ ap (λ l. length l * size z k (window - 1)) (sym (leaving-is window sets rows major side k pos)) in
-        record {
-          some-leave = leave;
-          width-is = ap (λ i. i / count) split ∙ mul-div-cancel-left (size z k (window - 1)) leave;
-          small = quotient-small count (size z k (window - 1)) 1048576 leave (subst (λ i. i ≤ 1048576) split small);
-          rows-are = sym (size-more z k (window - 1)) ∙ ap (λ i. size z i (suc (window - 1))) (sym (add-one k));
-        }
+  -- one block too many is too many for all
+  pub too-many : {r : ℕ} → k < n → r ≡ size z (k + 1) (suc (window - 1)) → 1048576 < used + r → 1048577 ≡ capped (need z n)
+  too-many h e large = capped-out (need z n) (omega (arith, counted e, need-mono z (k + 1) n (omega arith)))
 
-    module _ (k before : ℕ) (c : Coming k before) (b : Bay) (e : b ≡ bayOf window sets k (before / length (strandsOf (leavingOf window sets k)))) where
-      pub bay-width : b .width ≡ size z k (window - 1)
-      bay-width = ap (λ (b : Bay). b .width) e ∙ c .width-is
-
-      pub bay-is : b ≡ bayOf window sets k (size z k (window - 1))
-      bay-is = e ∙ ap (bayOf window sets k) (c .width-is)
-
-      pub bay-small : b .width ≤ 1048576
-      bay-small = subst (λ w. w ≤ 1048576) (sym bay-width) (c .small)
-
-      pub bay-rows : (r : ℕ) → r ≡ b .width * length (strandsOf (b .set)) → r ≡ size z (k + 1) (suc (window - 1))
-      bay-rows r f = f ∙ ap₂ (λ w s. w * length (strandsOf s)) bay-width (ap (λ (b : Bay). b .set) e) ∙ c .rows-are
-
-      pub rows-small : (r : ℕ) → r ≡ b .width * length (strandsOf (b .set)) → r ≤ 67108864
-      rows-small r f = subst (λ i. i ≤ 67108864) (sym f) (product-small (b .width) (b .set) bay-small)
-
-    pub counting-starts : (n : ℕ) → Counting n 0 1 0
-    counting-starts n = record { within = omega arith; rows-are = sym (size-first z (suc (window - 1))); used-is = sym (need-none z); few-rows = omega arith; few = omega arith }
-
-    module _ (n k before used : ℕ) (some : Filled z n) (h : k < n) (l : Counting n k before used) where
-      pub counting-comes : Coming k before
-      counting-comes = coming k n before some h (l .rows-are) (l .few-rows)
-
-      pub counted : (r : ℕ) → r ≡ size z (k + 1) (suc (window - 1)) → used + r ≡ need z (k + 1)
-      counted r e = ap₂ (λ a b. a + b) (l .used-is) e ∙ sym (need-more z k)
-
-      pub counting-turns : (r : ℕ) → r ≡ size z (k + 1) (suc (window - 1)) → used + r ≤ 1048576 → Counting n (k + 1) r (used + r)
-      counting-turns r e few = record { within = omega arith; rows-are = e; used-is = counted r e; few-rows = omega arith; few = few }
-
-      -- one block too many is too many for all
-      pub too-many : (r : ℕ) → r ≡ size z (k + 1) (suc (window - 1)) → 1048576 < used + r → 1048577 ≡ capped (need z n)
-      too-many r e large = capped-out (need z n) (omega (arith, counted r e, need-mono z (k + 1) n (omega arith)))
-
-    pub counting-ends : (n k before used : ℕ) → Counting n k before used → n ≤ k → used ≡ capped (need z n)
-    counting-ends n k before used l h =
-        let all : used ≡ need z n = l .used-is ∙ ap (need z) (omega (arith, l .within)) in
-        all ∙ capped-in (need z n) (omega (arith, l .few))
+  pub counting-ends : n ≤ k → used ≡ capped (need z n)
+  counting-ends h =
+      let all : used ≡ need z n = l .used-is ∙ ap (need z) (omega (arith, l .within)) in
+      all ∙ capped-in (need z n) (omega (arith, l .few))

@@ -27,32 +27,20 @@ start l = l .before .before .before .before .before .before
 module _ (l : tie.At-loop Inv-loop μ-loop) where
   same-energies : length (l .loop .energies) ≡ length (now (start l .args .energies))
   same-energies =
-      let s = start l in
-      let a = s .args in
-      energies-kept (a .bay) (now (a .here)) (now (a .major)) (now (a .side)) (a .from) (a .end) (now (a .energies)) (now (a .notes)) (s .pre .0 .0) (s .pre .1) (l .loop .energies)
-      (l .loop .notes) (l .loop .u) (l .loop .at) (l .loop .q) (l .loop .inv .1)
+      energies-kept (l .loop .inv .1)
 
   same-notes : length (l .loop .notes) ≡ length (now (start l .args .notes))
   same-notes =
-      let s = start l in
-      let a = s .args in
-      notes-kept (a .bay) (now (a .here)) (now (a .major)) (now (a .side)) (a .from) (a .end) (now (a .energies)) (now (a .notes)) (s .pre .0 .0) (s .pre .1) (l .loop .energies)
-      (l .loop .notes) (l .loop .u) (l .loop .at) (l .loop .q) (l .loop .inv .1)
+      notes-kept (l .loop .inv .1)
 
   u-small : l .loop .u < 64
   u-small =
-      let s = start l in
-      let a = s .args in
-      block-small (a .bay) (now (a .here)) (now (a .major)) (now (a .side)) (a .from) (a .end) (now (a .energies)) (now (a .notes)) (s .pre .0 .0) (s .pre .1) (l .loop .energies)
-      (l .loop .notes) (l .loop .u) (l .loop .at) (l .loop .q) (l .loop .inv .1)
+      block-small (l .loop .inv .1)
 
   room : l .loop .q < start l .args .bay .width
       → Writable (start l .args .bay) (start l .args .from) (start l .args .end) (l .loop .at) (length (strandsOf (start l .args .bay .set))) (length (l .loop .energies)) (length (l .loop .notes))
   room h =
-      let s = start l in
-      let a = s .args in
-      line-writable (a .bay) (now (a .here)) (now (a .major)) (now (a .side)) (a .from) (a .end) (now (a .energies)) (now (a .notes)) (s .pre .0 .0) (s .pre .1) (l .loop .energies)
-      (l .loop .notes) (l .loop .u) (l .loop .at) (l .loop .q) (l .loop .inv .1) h
+      line-writable (l .loop .inv .1) h
 
 size-requires : tie.Need-size-requires Inv-loop μ-loop
 size-requires c κs = search needs
@@ -68,8 +56,7 @@ loop-holds c =
     let s = c .before .before .before .before .before in
     let a = s .args in (
       c .before .size .ensures,
-      block-starts (a .bay) (now (a .here)) (now (a .major)) (now (a .side)) (a .from) (a .end) (now (a .energies)) (now (a .notes)) (s .pre .0 .0) (s .pre .1) (c .next .result)
-          (c .next .ensures),
+      block-starts (a .bay) (now (a .here)) (now (a .major)) (now (a .side)) (a .from) (a .end) (now (a .energies)) (now (a .notes)) (c .next .result) (s .pre .0 .0) (s .pre .1) (c .next .ensures),
     )
 
 cast-put-line : tie.Need-cast-put-line Inv-loop μ-loop
@@ -100,12 +87,9 @@ loop-again : tie.Need-loop-again Inv-loop μ-loop
 loop-again c =
     let turn = c .before .before .before .before .before .before .before .before in
     let l = turn .before .before in
-    let s = start l in
-    let a = s .args in
     let wrote = c .before .before .before .before .before .put-line .ensures in (
       l .loop .inv .0,
-      block-turns (a .bay) (now (a .here)) (now (a .major)) (now (a .side)) (a .from) (a .end) (now (a .energies)) (now (a .notes)) (s .pre .0 .0) (s .pre .1) (l .loop .energies)
-          (l .loop .notes) (l .loop .u) (l .loop .at) (l .loop .q) (l .loop .inv .1) (c .following .result) (l .before .before .size .result) _ _ (turn .if1 .taken) (l .loop .inv .0)
+      block-turns (l .loop .inv .1) (c .following .result) (l .before .before .size .result) _ _ (turn .if1 .taken) (l .loop .inv .0)
           (c .following .ensures) (wrote .0) (wrote .1),
     )
 
@@ -118,10 +102,7 @@ same-length-2 c = same-notes (c .before .before)
 returns : tie.Need-returns Inv-loop μ-loop
 returns c =
     let l = c .before .before in
-    let s = start l in
-    let a = s .args in
-    block-ends (a .bay) (now (a .here)) (now (a .major)) (now (a .side)) (a .from) (a .end) (now (a .energies)) (now (a .notes)) (s .pre .0 .0) (s .pre .1) (l .loop .energies)
-    (l .loop .notes) (l .loop .u) (l .loop .at) (l .loop .q) (l .loop .inv .1) (c .if1 .left)
+    block-ends (l .loop .inv .1) (c .if1 .left)
 
 pub put-bay-spec : {M : Type 1} → statement M
 put-bay-spec =

@@ -37,29 +37,21 @@ rowsOf s p =
 
 energies-same : (l : tie.At-loop Inv-loop μ-loop) → length (l .loop .energies) ≡ length (now (start l .args .energies))
 energies-same l =
-    let s = start l in
-    energies-long (s .args .bay .set) (s .args .at) (rowsOf s) (now (s .args .energies)) (now (s .args .notes)) (s .pre .1 .energies-fit) (s .pre .1 .notes-fit) (l .loop .energies)
-    (l .loop .notes) (l .loop .t) (l .loop .j) (l .loop .inv)
+    energies-long (l .loop .inv)
 
 notes-same : (l : tie.At-loop Inv-loop μ-loop) → length (l .loop .notes) ≡ length (now (start l .args .notes))
 notes-same l =
-    let s = start l in
-    notes-long (s .args .bay .set) (s .args .at) (rowsOf s) (now (s .args .energies)) (now (s .args .notes)) (s .pre .1 .energies-fit) (s .pre .1 .notes-fit) (l .loop .energies)
-    (l .loop .notes) (l .loop .t) (l .loop .j) (l .loop .inv)
+    notes-long (l .loop .inv)
 
 energies-next : (c : tie.In-loop Inv-loop μ-loop) → c .before .loop .j < length (c .before .loop .energies)
 energies-next c =
     let l = c .before in
-    let s = start l in
-    energies-room (s .args .bay .set) (s .args .at) (rowsOf s) (now (s .args .energies)) (now (s .args .notes)) (s .pre .1 .energies-fit) (s .pre .1 .notes-fit) (l .loop .energies)
-    (l .loop .notes) (l .loop .t) (l .loop .j) (l .loop .inv) (c .loop-test .taken)
+    energies-room (l .loop .inv) (c .loop-test .taken)
 
 notes-next : (c : tie.In-loop Inv-loop μ-loop) → c .before .loop .j < length (c .before .loop .notes)
 notes-next c =
     let l = c .before in
-    let s = start l in
-    notes-room (s .args .bay .set) (s .args .at) (rowsOf s) (now (s .args .energies)) (now (s .args .notes)) (s .pre .1 .energies-fit) (s .pre .1 .notes-fit) (l .loop .energies)
-    (l .loop .notes) (l .loop .t) (l .loop .j) (l .loop .inv) (c .loop-test .taken)
+    notes-room (l .loop .inv) (c .loop-test .taken)
 
 next-requires : tie.Need-next-requires Inv-loop μ-loop
 next-requires c κs = search needs
@@ -67,7 +59,7 @@ next-requires c κs = search needs
 loop-holds : tie.Need-loop-holds Inv-loop μ-loop
 loop-holds c =
     let s = c .before .before .before .before in
-    line-starts (s .args .bay .set) (s .args .at) (rowsOf s) (now (s .args .energies)) (now (s .args .notes)) (s .pre .1 .energies-fit) (s .pre .1 .notes-fit) (c .next .result) (c .next .ensures)
+    line-starts (s .args .bay .set) (s .args .at) (rowsOf s) (now (s .args .energies)) (now (s .args .notes)) (c .next .result) (s .pre .1 .energies-fit) (s .pre .1 .notes-fit) (c .next .ensures)
 
 cast-own-of : tie.Need-cast-own-of Inv-loop μ-loop
 cast-own-of c = omega arith
@@ -117,8 +109,7 @@ best-is c =
     let s = start l in
     let a = s .args in
     let strand : l .loop .t ≡ getD (strandsOf (a .bay .set)) (length (members (has (a .bay .set)) (l .loop .t))) 0 =
-    line-strand (a .bay .set) (a .at) (rowsOf s) (now (a .energies)) (now (a .notes)) (s .pre .1 .energies-fit) (s .pre .1 .notes-fit) (l .loop .energies) (l .loop .notes) (l .loop .t)
-    (l .loop .j) (l .loop .inv) (turn .loop-test .taken) in
+    line-strand (l .loop .inv) (turn .loop-test .taken) in
     let before : part (a .from) (a .end) (l .loop .energies) ≡ part (a .from) (a .end) (now (a .energies)) =
     ap (part (a .from) (a .end)) (l .loop .inv .energies-are)
     ∙ part-over (now (a .energies)) (a .at) (tab (λ p. rowsOf s p .energy) (length (members (has (a .bay .set)) (l .loop .t)))) (a .from) (a .end) (s .pre .1 .from-end) (s .pre .1 .behind)
@@ -163,9 +154,7 @@ loop-again : tie.Need-loop-again Inv-loop μ-loop
 loop-again c =
     let turn = c .before .before .before .before .before .before in
     let l = turn .before in
-    let s = start l in
-    line-turns (s .args .bay .set) (s .args .at) (rowsOf s) (now (s .args .energies)) (now (s .args .notes)) (s .pre .1 .energies-fit) (s .pre .1 .notes-fit) (l .loop .energies)
-    (l .loop .notes) (l .loop .t) (l .loop .j) (l .loop .inv) (c .next2 .result) (c .before .before .row .result) (turn .loop-test .taken) (c .next2 .ensures) (best-is (c .before .before))
+    line-turns (l .loop .inv) (c .next2 .result) (c .before .before .row .result) (turn .loop-test .taken) (c .next2 .ensures) (best-is (c .before .before))
 
 same-length : tie.Need-same-length Inv-loop μ-loop
 same-length c = energies-same (c .before)
@@ -176,9 +165,7 @@ same-length-2 c = notes-same (c .before)
 returns : tie.Need-returns Inv-loop μ-loop
 returns c =
     let l = c .before in
-    let s = start l in
-    line-ends (s .args .bay .set) (s .args .at) (rowsOf s) (now (s .args .energies)) (now (s .args .notes)) (s .pre .1 .energies-fit) (s .pre .1 .notes-fit) (l .loop .energies) (l .loop .notes)
-    (l .loop .t) (l .loop .j) (l .loop .inv) (c .loop-test .left)
+    line-ends (l .loop .inv) (c .loop-test .left)
 
 pub put-line-spec : {M : Type 1} → statement M
 put-line-spec =

@@ -24,21 +24,15 @@ start l = l .before .before .before .before .before
 module _ (l : tie.At-loop Inv-loop μ-loop) where
   same-energies : length (l .loop .energies) ≡ length (now (start l .args .energies))
   same-energies =
-      let a = start l .args in
-      energies-whole (a .window) (now (a .sets)) (now (a .bays)) (now (a .major)) (now (a .side)) (now (a .energies)) (now (a .notes)) (start l .pre) (l .loop .energies) (l .loop .notes)
-      (l .loop .rows) (l .loop .from) (l .loop .end) (l .loop .k) (l .loop .inv)
+      energies-whole (l .loop .inv)
 
   same-notes : length (l .loop .notes) ≡ length (now (start l .args .notes))
   same-notes =
-      let a = start l .args in
-      notes-whole (a .window) (now (a .sets)) (now (a .bays)) (now (a .major)) (now (a .side)) (now (a .energies)) (now (a .notes)) (start l .pre) (l .loop .energies) (l .loop .notes)
-      (l .loop .rows) (l .loop .from) (l .loop .end) (l .loop .k) (l .loop .inv)
+      notes-whole (l .loop .inv)
 
   bay-inside : l .loop .k < length (now (start l .args .sets)) → l .loop .k * 64 + 64 ≤ length (now (start l .args .bays))
   bay-inside h =
-      let a = start l .args in
-      bay-in (a .window) (now (a .sets)) (now (a .bays)) (now (a .major)) (now (a .side)) (now (a .energies)) (now (a .notes)) (start l .pre) (l .loop .energies) (l .loop .notes)
-      (l .loop .rows) (l .loop .from) (l .loop .end) (l .loop .k) (l .loop .inv) h
+      bay-in (l .loop .inv) h
 
 -- the bay that a turn has can be written
 writable : (c : tie.After-bay-at Inv-loop μ-loop)
@@ -46,9 +40,7 @@ writable : (c : tie.After-bay-at Inv-loop μ-loop)
     (c .bay-at .result .width * length (strandsOf (c .bay-at .result .set))) (length (c .before .before .loop .energies)) (length (c .before .before .loop .notes))
 writable c =
     let l = c .before .before in
-    let a = start l .args in
-    bay-writable (a .window) (now (a .sets)) (now (a .bays)) (now (a .major)) (now (a .side)) (now (a .energies)) (now (a .notes)) (start l .pre) (l .loop .energies) (l .loop .notes)
-    (l .loop .rows) (l .loop .from) (l .loop .end) (l .loop .k) (l .loop .inv) (c .before .loop-test .taken) (c .bay-at .result) (c .bay-at .ensures)
+    bay-writable (l .loop .inv) (c .before .loop-test .taken) (c .bay-at .ensures)
 
 loop-holds : tie.Need-loop-holds Inv-loop μ-loop
 loop-holds c =
@@ -58,11 +50,9 @@ loop-holds c =
 
 bay-at-requires : tie.Need-bay-at-requires Inv-loop μ-loop
 bay-at-requires c κs =
-    let l = c .before in
-    let a = start l .args in (
+    let l = c .before in (
       (start l .pre .some-window, c .loop-test .taken),
-      fill-comes (a .window) (now (a .sets)) (now (a .bays)) (now (a .major)) (now (a .side)) (now (a .energies)) (now (a .notes)) (start l .pre) (l .loop .energies) (l .loop .notes)
-          (l .loop .rows) (l .loop .from) (l .loop .end) (l .loop .k) (l .loop .inv) (c .loop-test .taken) .some-leave,
+      fill-comes (l .loop .inv) (c .loop-test .taken) .some-leave,
     )
 
 mul-at : tie.Need-mul-at Inv-loop μ-loop
@@ -86,13 +76,10 @@ part-put-bay-end c = bay-inside (c .before .before) (c .before .loop-test .taken
 put-bay-requires : tie.Need-put-bay-requires Inv-loop μ-loop
 put-bay-requires c κs =
     let b = c .before .before .before in
-    let l = b .before .before in
-    let a = start l .args in (
+    let l = b .before .before in (
       (
-        previous-some (a .window) (now (a .sets)) (now (a .bays)) (now (a .major)) (now (a .side)) (now (a .energies)) (now (a .notes)) (start l .pre) (l .loop .energies) (l .loop .notes)
-            (l .loop .rows) (l .loop .from) (l .loop .end) (l .loop .k) (l .loop .inv) (b .before .loop-test .taken) (b .bay-at .result) (b .bay-at .ensures),
-        here-long (a .window) (now (a .sets)) (now (a .bays)) (now (a .major)) (now (a .side)) (now (a .energies)) (now (a .notes)) (start l .pre) (l .loop .energies) (l .loop .notes)
-            (l .loop .rows) (l .loop .from) (l .loop .end) (l .loop .k) (l .loop .inv) (b .before .loop-test .taken) _ refl,
+        previous-some (l .loop .inv) (b .before .loop-test .taken) (b .bay-at .ensures),
+        here-long (l .loop .inv) (b .before .loop-test .taken) _ refl,
       ),
       writable b,
     )
@@ -118,10 +105,8 @@ loop-again : tie.Need-loop-again Inv-loop μ-loop
 loop-again c =
     let b = c .before .before .before .before .before .before .before .before .before in
     let l = b .before .before in
-    let a = start l .args in
     let wrote = c .before .before .before .before .before .put-bay .ensures in
-    filling-turns (a .window) (now (a .sets)) (now (a .bays)) (now (a .major)) (now (a .side)) (now (a .energies)) (now (a .notes)) (start l .pre) (l .loop .energies) (l .loop .notes)
-    (l .loop .rows) (l .loop .from) (l .loop .end) (l .loop .k) (l .loop .inv) (b .before .loop-test .taken) (b .bay-at .result) (b .bay-at .ensures) _ _ _ (c .rows-of .result) refl (wrote .0)
+    filling-turns (l .loop .inv) (b .before .loop-test .taken) (b .bay-at .ensures) _ _ _ (c .rows-of .result) refl (wrote .0)
     (wrote .1) (c .rows-of .ensures)
 
 same-length : tie.Need-same-length Inv-loop μ-loop
@@ -133,9 +118,7 @@ same-length-2 c = same-notes (c .before)
 returns : tie.Need-returns Inv-loop μ-loop
 returns c =
     let l = c .before in
-    let a = start l .args in
-    filling-ends (a .window) (now (a .sets)) (now (a .bays)) (now (a .major)) (now (a .side)) (now (a .energies)) (now (a .notes)) (start l .pre) (l .loop .energies) (l .loop .notes)
-    (l .loop .rows) (l .loop .from) (l .loop .end) (l .loop .k) (l .loop .inv) (c .loop-test .left)
+    filling-ends (l .loop .inv) (c .loop-test .left)
 
 pub fill-spec : {M : Type 1} → statement M
 fill-spec =

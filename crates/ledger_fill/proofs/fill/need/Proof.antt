@@ -6,6 +6,7 @@ use native.Mathlib.Omega.{arith}
 use lib.Ieee.{Float}
 use lib.ListN.{length}
 use denote.Ref.{now}
+use Rattle.ledger_rows.specs.Scan.{Scan}
 use Rattle.ledger_rows.specs.Blocks.{size}
 use Rattle.ledger_fill.specs.Handed.{setScan}
 use Rattle.ledger_fill.proofs.Sizes.{Coming, Counting, counting-starts, counting-comes, counting-turns, too-many, counting-ends, bay-small, bay-rows, rows-small}
@@ -23,51 +24,39 @@ abbrev μ-loop : tie.MeasureT-loop
 μ-loop window sets rows₀ used₀ k₀ rows used k = length sets - k
 
 -- what a turn knows
-comes : (c : tie.In-loop Inv-loop μ-loop) → Coming (c .before .before .before .args .window) (now (c .before .before .before .args .sets)) none [] [] (c .before .loop .k) (c .before .loop .rows)
-comes c =
-    let l = c .before in
-    let s = l .before .before in
-    counting-comes (s .args .window) (now (s .args .sets)) none [] [] (s .pre .0) (length (now (s .args .sets))) (l .loop .k) (l .loop .rows) (l .loop .used) (s .pre .1) (c .loop-test .taken) (l .loop .inv)
+abbrev start : tie.At-loop Inv-loop μ-loop → tie.Start Inv-loop μ-loop
+start l = l .before .before
 
-rows-next : (c : tie.After-rows-of Inv-loop μ-loop) → c .rows-of .result ≡ size (setScan (c .before .before .before .before .before .args .window) (now (c .before .before .before .before .before .args .sets))) (c .before .before .before .loop .k + 1) (suc (c .before .before .before .before .before .args .window - 1))
-rows-next c =
-    let turn = c .before .before in
-    let s = turn .before .before .before in
-    bay-rows (s .args .window) (now (s .args .sets)) none [] [] (s .pre .0) (turn .before .loop .k) (turn .before .loop .rows) (comes turn) (c .before .bay-at .result) (c .before .bay-at .ensures) (c .rows-of .result)
-    (c .rows-of .ensures)
+abbrev turn : tie.After-rows-of Inv-loop μ-loop → tie.In-loop Inv-loop μ-loop
+turn c = c .before .before
+
+abbrev scan : tie.At-loop Inv-loop μ-loop → Scan
+scan l = setScan (start l .args .window) (now (start l .args .sets))
+
+comes : (c : tie.In-loop Inv-loop μ-loop) → Coming (start (c .before) .args .window) (now (start (c .before) .args .sets)) none [] [] (c .before .loop .k) (c .before .loop .rows)
+comes c = counting-comes (c .before .loop .inv) (c .loop-test .taken)
+
+rows-next : (c : tie.After-rows-of Inv-loop μ-loop) → c .rows-of .result ≡ size (scan (turn c .before)) (turn c .before .loop .k + 1) (suc (start (turn c .before) .args .window - 1))
+rows-next c = bay-rows (comes (turn c)) (c .before .bay-at .ensures) (c .rows-of .result) (c .rows-of .ensures)
 
 loop-holds : tie.Need-loop-holds Inv-loop μ-loop
 loop-holds c =
     let s = c .before in
-    counting-starts (s .args .window) (now (s .args .sets)) none [] [] (s .pre .0) (length (now (s .args .sets)))
+    counting-starts (s .args .window) (now (s .args .sets)) none [] [] (length (now (s .args .sets))) (s .pre .0) (s .pre .1)
 
 bay-at-requires : tie.Need-bay-at-requires Inv-loop μ-loop
-bay-at-requires c κs = ((c .before .before .before .pre .0, c .loop-test .taken), comes c .some-leave)
+bay-at-requires c κs = ((start (c .before) .pre .0, c .loop-test .taken), comes c .some-leave)
 
 rows-of-requires : tie.Need-rows-of-requires Inv-loop μ-loop
-rows-of-requires c κs =
-    let turn = c .before in
-    let s = turn .before .before .before in
-    bay-small (s .args .window) (now (s .args .sets)) none [] [] (s .pre .0) (turn .before .loop .k) (turn .before .loop .rows) (comes turn) (c .bay-at .result) (c .bay-at .ensures)
+rows-of-requires c κs = bay-small (comes (c .before)) (c .bay-at .ensures)
 
 add-used : tie.Need-add-used Inv-loop μ-loop
-add-used c =
-    let turn = c .before .before in
-    let s = turn .before .before .before in
-    omega (
-      arith,
-      turn .before .loop .inv .few,
-      rows-small (s .args .window) (now (s .args .sets)) none [] [] (s .pre .0) (turn .before .loop .k) (turn .before .loop .rows) (comes turn) (c .before .bay-at .result) (c .before .bay-at .ensures)
-          (c .rows-of .result) (c .rows-of .ensures),
-    )
+add-used c = omega (arith, turn c .before .loop .inv .few, rows-small (comes (turn c)) (c .before .bay-at .ensures) (c .rows-of .result) (c .rows-of .ensures))
 
 returns : tie.Need-returns Inv-loop μ-loop
 returns c =
-    let turn = c .before .before .before in
-    let l = turn .before in
-    let s = l .before .before in
-    too-many (s .args .window) (now (s .args .sets)) none [] [] (s .pre .0) (length (now (s .args .sets))) (l .loop .k) (l .loop .rows) (l .loop .used) (s .pre .1) (turn .loop-test .taken) (l .loop .inv)
-    (c .before .rows-of .result) (rows-next (c .before)) (c .if1 .taken)
+    let t = turn (c .before) in
+    too-many (t .before .loop .inv) (t .loop-test .taken) (rows-next (c .before)) (c .if1 .taken)
 
 add-k : tie.Need-add-k Inv-loop μ-loop
 add-k c = omega (arith, c .before .before .before .loop-test .taken)
@@ -77,17 +66,11 @@ loop-less c = omega (arith, c .before .before .before .loop-test .taken)
 
 loop-again : tie.Need-loop-again Inv-loop μ-loop
 loop-again c =
-    let turn = c .before .before .before in
-    let l = turn .before in
-    let s = l .before .before in
-    counting-turns (s .args .window) (now (s .args .sets)) none [] [] (s .pre .0) (length (now (s .args .sets))) (l .loop .k) (l .loop .rows) (l .loop .used) (s .pre .1) (turn .loop-test .taken)
-    (l .loop .inv) (c .before .rows-of .result) (rows-next (c .before)) (c .if1 .left)
+    let t = turn (c .before) in
+    counting-turns (t .before .loop .inv) (t .loop-test .taken) (rows-next (c .before)) (c .if1 .left)
 
 returns-2 : tie.Need-returns-2 Inv-loop μ-loop
-returns-2 c =
-    let l = c .before in
-    let s = l .before .before in
-    counting-ends (s .args .window) (now (s .args .sets)) none [] [] (s .pre .0) (length (now (s .args .sets))) (l .loop .k) (l .loop .rows) (l .loop .used) (l .loop .inv) (c .loop-test .left)
+returns-2 c = counting-ends (c .before .loop .inv) (c .loop-test .left)
 
 pub need-spec : {M : Type 1} → statement M
 need-spec = tie.close (tie.spec Inv-loop μ-loop loop-holds bay-at-requires rows-of-requires add-used returns add-k loop-less loop-again returns-2)

@@ -43,7 +43,7 @@ loop-holds : tie.Need-loop-holds Inv-loop μ-loop
 loop-holds c =
     let s = c .before .before .before .before in
     let a = s .args in
-    starts (a .own) (now (a .major)) (now (a .before)) (a .leaving) (a .width) (a .q) (c .before .before .next .result) (c .next2 .result) (c .before .candidate .result) (s .pre .3)
+    starts (a .own) (now (a .major)) (now (a .before)) (a .leaving) (a .width) (a .q) (s .pre .3)
     (c .before .before .next .ensures) (c .next2 .ensures) (c .before .candidate .ensures)
 
 cast-candidate-2 : tie.Need-cast-candidate-2 Inv-loop μ-loop
@@ -65,12 +65,10 @@ add-i-2 : tie.Need-add-i-2 Inv-loop μ-loop
 add-i-2 c =
     let turn = c .before .before .before in
     let s = turn .before .before .before .before .before .before in
-    let a = s .args in
     omega (
       arith,
       s .pre,
-      place-small (a .own) (now (a .major)) (now (a .before)) (a .leaving) (a .width) (a .q) (turn .before .loop .s) (turn .before .loop .i) (turn .before .loop .choice)
-          (turn .before .loop .inv) (turn .loop-test .taken) (s .pre .1) (s .pre .2),
+      place-small (turn .before .loop .inv) (turn .loop-test .taken) (s .pre .1) (s .pre .2),
     )
 
 loop-less : tie.Need-loop-less Inv-loop μ-loop
@@ -83,17 +81,12 @@ loop-less c =
 loop-again : tie.Need-loop-again Inv-loop μ-loop
 loop-again c =
     let turn = c .before .before .before in
-    let s = turn .before .before .before .before .before .before in
-    let a = s .args in
-    turns (a .own) (now (a .major)) (now (a .before)) (a .leaving) (a .width) (a .q) (turn .before .loop .s) (c .next3 .result) (turn .before .loop .i) (turn .before .loop .choice)
-    (c .before .lower .result) (c .before .before .candidate2 .result) (turn .before .loop .inv) (turn .loop-test .taken) (c .next3 .ensures) (c .before .before .candidate2 .ensures)
+    turns (turn .before .loop .inv) (turn .loop-test .taken) (c .next3 .ensures) (c .before .before .candidate2 .ensures)
     (c .before .lower .ensures)
 
 returns : tie.Need-returns Inv-loop μ-loop
 returns c =
-    let s = c .before .before .before .before .before .before in
-    let a = s .args in
-    ends (a .own) (now (a .major)) (now (a .before)) (a .leaving) (a .width) (a .q) (c .before .loop .s) (c .before .loop .i) (c .before .loop .choice) (c .before .loop .inv)
+    ends (c .before .loop .inv)
     (c .loop-test .left)
 
 pub row-spec : {M : Type 1} → statement M
