@@ -89,7 +89,7 @@ loop-again c =
     let l = turn .before .before in
     let wrote = c .before .before .before .before .before .put-line .ensures in (
       l .loop .inv .0,
-      block-turns (l .loop .inv .1) (c .following .result) (l .before .before .size .result) _ _ (turn .if1 .taken) (l .loop .inv .0)
+      block-turns (l .loop .inv .1) (turn .if1 .taken) (l .loop .inv .0)
           (c .following .ensures) (wrote .0) (wrote .1),
     )
 
