@@ -18,7 +18,7 @@ use Rattle.ledger_rows.specs.Trace.{below, rowBefore, trace, answerRow, answer,
 use Rattle.ledger_rows.proofs.Numbering.{size-some}
 use Rattle.ledger_rows.proofs.Rows.{length-energies}
 use Rattle.ledger_rows.proofs.Tables.{length-energy-table, length-note-table, notes-follow}
-use Rattle.ledger_rows.proofs.Agreeing.{size-same, need-same, leavers-same}
+use Rattle.ledger_rows.proofs.SameStrands.{size-same, need-same, leavers-same}
 use Rattle.ledger_rows.proofs.Answering.{answer-inside, note-leaves}
 use Rattle.ledger_fill.specs.declared.fill.Last.{Last}
 use Rattle.ledger_fill.specs.Handed.{strandsOf, addedOf, setScan, runScan, Fillable}

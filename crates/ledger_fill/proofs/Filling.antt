@@ -11,7 +11,7 @@ use lib.Seq.{take-at, drop-at, length-take-le}
 use Rattle.floats.specs.declared.Choice.{Choice}
 use Rattle.ledger_rows.specs.Scan.{Scan}
 use Rattle.ledger_rows.specs.Blocks.{flat, size, blockOf, energies, notes, need, energyTable, noteTable}
-use Rattle.ledger_rows.proofs.Agreeing.{need-same}
+use Rattle.ledger_rows.proofs.SameStrands.{need-same}
 use Rattle.ledger_rows.proofs.Lists.{flat-none, flat-more}
 use Rattle.ledger_rows.proofs.Rows.{length-energies, length-notes}
 use Rattle.ledger_rows.proofs.Tables.{length-energy-table, length-note-table}

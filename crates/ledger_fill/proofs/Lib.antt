@@ -7,4 +7,3 @@ pub mod Blocking
 pub mod Agrees
 pub mod Sizes
 pub mod Filling
-pub mod Tabled

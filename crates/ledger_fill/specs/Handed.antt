@@ -8,7 +8,7 @@ use lib.Ieee.{Float, nan, binary64, add}
 use lib.ListN.{length, getD, take, drop}
 use Rattle.sets.specs.Set.{has, members}
 use Rattle.ledger_rows.specs.Scan.{Scan, Filled}
-use Rattle.ledger_rows.specs.Blocks.{tab, flat, need}
+use Rattle.ledger_rows.specs.Blocks.{need}
 
 -- the strands of a set, by rising number
 abbrev pub strandsOf : (set : ℕ) → List ℕ
@@ -42,19 +42,6 @@ capped need = cond (leb need 1048576) need 1048577
 -- the scan of a run whose bay energies stand in one table, 64 a bay
 abbrev pub runScan : (window : ℕ) → (sets : List ℕ) → (bays major side : List Float) → Scan
 runScan window sets bays major side = scanOf window sets (λ k. take 64 (drop (k * 64) bays)) major side
-
--- a table of the first `count` rows of a function, 64 numbers a row
-abbrev pub tableOf : (f : ℕ → ℕ → Float) → (count : ℕ) → List Float
-tableOf f count = flat (λ i. tab (f i) 64) count
-
--- the scan whose numbers are functions of the strands: what tables of them stand for
-abbrev pub directScan : (window : ℕ) → (sets : List ℕ) → (bay major side : ℕ → ℕ → Float) → Scan
-directScan window sets bay major side =
-    record {
-      kept = window - 1;
-      strands = λ k. strandsOf (getD sets k 0);
-      added = λ k s u t. withBond (not (eqb (k % window) 0)) (side u t) (withBond (leb window k) (major s t) (bay k t));
-    }
 
 -- what a fill is handed: a window, a strand for each bay, 64 energies a bay, few enough rows, and room for them in both tables
 pub record Fillable (window : ℕ) (sets : List ℕ) (bays : List Float) (energies notes : ℕ) : Type 0 where

@@ -9,5 +9,5 @@ pub mod Windows
 pub mod Tables
 pub mod TheLedgerIsRight
 pub mod Answering
-pub mod Agreeing
+pub mod SameStrands
 pub mod Computed
