@@ -260,35 +260,27 @@ fn tile_number(n: u64) -> u32 {
     if n < 4294967295 { n as u32 } else { 4294967295 }
 }
 
-pub(crate) fn tile_name(line: &[u8], out: &mut [u8]) -> usize {
+// The numbers of a case on one tile are read.
+fn tile_asked<'a>(
+    line: &[u8],
+    text: &'a [u8],
+    offsets: &[usize],
+    present: &[u8],
+    numerals: &'a [u8],
+    out: &mut [u8],
+) -> usize {
     let Number::Of(strands) = number_field(line, b"strands") else {
         return unreadable(out);
     };
     let Number::Of(tile) = number_field(line, b"tile") else {
         return unreadable(out);
     };
-    let mut text = [0u8; 16400];
-    let Count::Of(t) = text_field(line, b"text", &mut text) else {
-        return unreadable(out);
-    };
-    let mut offsets = [0usize; 80];
-    let Count::Of(o) = numbers_field(line, b"offsets", &mut offsets) else {
-        return unreadable(out);
-    };
-    let mut present = [0u8; 80];
-    let Count::Of(p) = bytes_field(line, b"present", &mut present) else {
-        return unreadable(out);
-    };
-    let mut numerals = [0u8; 256];
-    let Count::Of(n) = numerals_field(line, &mut numerals) else {
-        return unreadable(out);
-    };
     tile_name_into(
         strands as usize,
-        first_bytes(&text, t),
-        first_numbers(&offsets, o),
-        first_bytes(&present, p),
-        first_bytes(&numerals, n),
+        text,
+        offsets,
+        present,
+        numerals,
         tile_number(tile),
         out,
     )
@@ -399,41 +391,6 @@ fn seeds_numbers(
     )
 }
 
-// The names of the strands are read; the seeds are still in the line.
-fn seeds_named(
-    line: &[u8],
-    text: &[u8; 16400],
-    text_read: Count,
-    offsets: &[usize; 80],
-    offsets_read: Count,
-    present: &[u8; 80],
-    present_read: Count,
-    numerals: &[u8; 256],
-    numerals_read: Count,
-    out: &mut [u8],
-) -> usize {
-    let Count::Of(t) = text_read else {
-        return unreadable(out);
-    };
-    let Count::Of(o) = offsets_read else {
-        return unreadable(out);
-    };
-    let Count::Of(p) = present_read else {
-        return unreadable(out);
-    };
-    let Count::Of(n) = numerals_read else {
-        return unreadable(out);
-    };
-    seeds_given(
-        line,
-        first_bytes(text, t),
-        first_numbers(offsets, o),
-        first_bytes(present, p),
-        first_bytes(numerals, n),
-        out,
-    )
-}
-
 // The lists of the seeds are read.
 fn seeds_given(
     line: &[u8],
@@ -465,7 +422,61 @@ fn seeds_given(
     )
 }
 
-pub(crate) fn seeds_by_name(line: &[u8], out: &mut [u8]) -> usize {
+// The names of the strands are read; the seeds, or one tile's name, are asked.
+fn ask_names<'a>(
+    line: &[u8],
+    seeds: bool,
+    text: &'a [u8],
+    offsets: &[usize],
+    present: &[u8],
+    numerals: &'a [u8],
+    out: &mut [u8],
+) -> usize {
+    if seeds {
+        return seeds_given(line, text, offsets, present, numerals, out);
+    }
+    tile_asked(line, text, offsets, present, numerals, out)
+}
+
+// The names of the strands are handed on, if they could be read.
+fn names_read<'a>(
+    line: &[u8],
+    seeds: bool,
+    text: &'a [u8; 16400],
+    text_read: Count,
+    offsets: &[usize; 80],
+    offsets_read: Count,
+    present: &[u8; 80],
+    present_read: Count,
+    numerals: &'a [u8; 256],
+    numerals_read: Count,
+    out: &mut [u8],
+) -> usize {
+    let Count::Of(t) = text_read else {
+        return unreadable(out);
+    };
+    let Count::Of(o) = offsets_read else {
+        return unreadable(out);
+    };
+    let Count::Of(p) = present_read else {
+        return unreadable(out);
+    };
+    let Count::Of(n) = numerals_read else {
+        return unreadable(out);
+    };
+    ask_names(
+        line,
+        seeds,
+        first_bytes(text, t),
+        first_numbers(offsets, o),
+        first_bytes(present, p),
+        first_bytes(numerals, n),
+        out,
+    )
+}
+
+// The calls on the names of strands: the seeds of a case, or one tile's name.
+pub(crate) fn strand_names(line: &[u8], seeds: bool, out: &mut [u8]) -> usize {
     let mut text = [0u8; 16400];
     let text_read = text_field(line, b"text", &mut text);
     let mut offsets = [0usize; 80];
@@ -474,8 +485,9 @@ pub(crate) fn seeds_by_name(line: &[u8], out: &mut [u8]) -> usize {
     let present_read = bytes_field(line, b"present", &mut present);
     let mut numerals = [0u8; 256];
     let numerals_read = numerals_field(line, &mut numerals);
-    seeds_named(
+    names_read(
         line,
+        seeds,
         &text,
         text_read,
         &offsets,

@@ -26,10 +26,10 @@ fn answer(line: &[u8], delta_g: &mut [f64], entropy: &mut [f64], out: &mut [u8])
         return keys::energy_keys(line, delta_g, entropy, out);
     }
     if same(call, b"tile_name") {
-        return calls::tile_name(line, out);
+        return calls::strand_names(line, false, out);
     }
     if same(call, b"seeds_by_name") {
-        return calls::seeds_by_name(line, out);
+        return calls::strand_names(line, true, out);
     }
     answer_lines::unreadable(out)
 }
