@@ -23,8 +23,8 @@ use Rattle.state_energy.specs.StateG.{energyVerdict, inKcal}
 use Rattle.ledger_rows.specs.Scan.{Scan, Filled}
 use Rattle.ledger_rows.specs.Blocks.{need, energyTable, noteTable}
 use Rattle.ledger_rows.specs.Trace.{answer, layout}
-use Rattle.ledger_fill.specs.Handed.{setScan, runScan, capped}
-use Rattle.ledger_fill.proofs.Filling.{need-same}
+use Rattle.ledger_fill.specs.Handed.{addedOf, setScan, runScan, capped}
+use Rattle.ledger_rows.proofs.SameStrands.{need-same}
 use Rattle.run_tables.specs.Tables.{window}
 use Rattle.ledger_fill.specs.Bays.{over}
 use Rattle.sdc2d_thermo.specs.Run.{roomVerdict, rowByRow, front, tableAfter, OnBoard, Roomy, Ran, Finished}
@@ -121,7 +121,7 @@ pub need-of : (rows cols w : ℕ) (scan : List ℕ) (sites major side : List Flo
 need-of rows cols w scan sites major side is long =
     ap (λ (v : ℕ). need (setScan v scan) (length scan)) is
     ∙ ap (need (setScan (window rows cols) scan)) long
-    ∙ need-same (window rows cols) scan (λ (k : ℕ). []) (λ (k : ℕ). take 64 (drop (k * 64) sites)) [] major [] side (rows * cols)
+    ∙ need-same (setScan (window rows cols) scan) (addedOf (window rows cols) (λ (k : ℕ). take 64 (drop (k * 64) sites)) major side) (rows * cols)
 
 -- the shorter side is there
 pub some-side : {rows cols scan lent : ℕ} → OnBoard rows cols scan lent → 0 < window rows cols
