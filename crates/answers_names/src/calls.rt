@@ -1,18 +1,18 @@
 // The calls on a system's names: fields are read, the library is asked with tables of sevens, and the answer is put down.
 use crate::answers;
 use crate::fields::at_most;
-use crate::fields::bytes_field;
-use crate::fields::number_field;
-use crate::fields::number_or;
-use crate::fields::numbers_field;
 use crate::fields::numerals_field;
 use crate::fields::product;
-use crate::fields::text_field;
 use crate::tables::all_numbers;
 use crate::tables::all_small_numbers;
 use answer_lines::put_value;
 use answer_lines::unreadable;
 use answer_lists::put_coded;
+use case_fields::bytes_field;
+use case_fields::number_field;
+use case_fields::number_or;
+use case_fields::numbers_field;
+use case_fields::text_field;
 use case_lists::Count;
 use case_text::Number;
 use case_text::first_bytes;

@@ -1,11 +1,5 @@
 // The call on energy keys: the matrices are the program's, filled with 7.0 as far as the case lends them.
-use crate::fields::bytes_field;
-use crate::fields::floats_field;
-use crate::fields::number_field;
-use crate::fields::number_or;
-use crate::fields::numbers_field;
 use crate::fields::product;
-use crate::fields::text_field;
 use crate::tables::all_floats;
 use crate::tables::fill_floats;
 use answer_lines::put_floats;
@@ -13,6 +7,12 @@ use answer_lines::put_text;
 use answer_lines::put_value;
 use answer_lines::refused_with_tables;
 use answer_lines::unreadable;
+use case_fields::bytes_field;
+use case_fields::floats_field;
+use case_fields::number_field;
+use case_fields::number_or;
+use case_fields::numbers_field;
+use case_fields::text_field;
 use case_lists::Count;
 use case_text::Number;
 use case_text::first_bytes;

@@ -1,20 +1,10 @@
 // The calls: fields are read, the library is asked, and the answer is put down.
 use crate::answers;
+use case_fields::float_field;
+use case_fields::text_field;
 use case_lists::Count;
-use case_lists::text_into;
 use case_text::FloatValue;
-use case_text::field;
 use case_text::first_bytes;
-use case_text::float;
-use case_text::has_field;
-
-// The text of a field, in `room`.
-fn text_field(line: &[u8], key: &[u8], room: &mut [u8]) -> Count {
-    if !has_field(line, key) {
-        return Count::Unreadable;
-    }
-    text_into(field(line, key), room)
-}
 
 pub(crate) fn string_dna_dg_ds(line: &[u8], out: &mut [u8]) -> usize {
     let mut dna = [0u8; 1024];
@@ -29,7 +19,7 @@ pub(crate) fn string_dna_delta_g(line: &[u8], out: &mut [u8]) -> usize {
     let Count::Of(n) = text_field(line, b"dna", &mut dna) else {
         return answer_lines::unreadable(out);
     };
-    let FloatValue::Of(kelvin) = float(field(line, b"kelvin")) else {
+    let FloatValue::Of(kelvin) = float_field(line, b"kelvin") else {
         return answer_lines::unreadable(out);
     };
     answers::energy(out, utils::string_dna_delta_g(first_bytes(&dna, n), kelvin))
