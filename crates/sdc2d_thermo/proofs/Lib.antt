@@ -10,3 +10,4 @@ pub mod Promised
 pub mod Unique
 pub mod Ordered
 pub mod RanOver
+pub mod Starred

@@ -1,2 +1,3 @@
 pub mod Run
 pub mod Layouts
+pub mod Starred
