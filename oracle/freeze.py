@@ -1,9 +1,10 @@
 #!/usr/bin/env python3
 """Writes the answers that the port has to give: oracle/freeze.py CASES RUSTANSWERS ANSWERS
 
-Where document 01 answers, the line is the Rust's, unchanged; where it refuses, and where the Rust has no such call, the
-line is the rules' (the modules of RULES). Every line of the Rust's is held against what the rules expect of it, also where
-it is not used. If one differs, the differences are told, nothing is written, and the exit status is 1.
+Where document 01 answers, the line is the Rust's, unchanged, and behind it what only the port has (a run's ledger); where
+it refuses, where the Rust has no such call, and where its layout is one of several that tie, the line is the rules' (the
+modules of RULES). Every line of the Rust's is held against what the rules expect of it, also where it is not used. If one
+differs, the differences are told, nothing is written, and the exit status is 1.
 """
 
 import re
@@ -18,11 +19,12 @@ import energy_rules  # noqa: E402
 import keys_rules  # noqa: E402
 import names_rules  # noqa: E402
 import rules  # noqa: E402
+import runs_rules  # noqa: E402
 import systems_rules  # noqa: E402
 from verdicts import verdict_of  # noqa: E402
 
 # The rules of each call, and the form of an answer where they do not tell all of it.
-RULES = [rules, names_rules, keys_rules, systems_rules, energy_rules]
+RULES = [rules, names_rules, keys_rules, systems_rules, energy_rules, runs_rules]
 CALLS = {call: verdict for module in RULES for call, verdict in module.CALLS.items()}
 FINITE = "(?![7f]ff)[0-9a-f]{16}"
 FORM = {
@@ -39,6 +41,8 @@ def fault_of(call, verdict, rust):
         return f"the rules expect {verdict.rust} of the Rust"
     if verdict.answer is not None and rust != verdict.answer:
         return f"the rules expect {verdict.answer} of the Rust"
+    if verdict.fits is not None and not verdict.fits(rust):
+        return "none of the answers that the rules take of the Rust"
     if verdict.line is None and verdict.answer is None and not FORM[call].fullmatch(rust):
         return "an answer that is not of the call's form, or not finite"
     return None
@@ -58,7 +62,7 @@ def main(cases, answers, frozen):
             if faults <= 20:
                 told = f"01 gives {verdict.line or 'an answer'}, the Rust {rust}: {fault}"
                 print(f"freeze: case {number}: {line.decode('latin-1')}\n  {told}", file=sys.stderr)
-        out.append(verdict.line or rust)
+        out.append(verdict.line or rust + verdict.rest)
         taken += verdict.line is None
         words = out[-1].split()
         counts[" ".join(words[:2]) if words[0] == "refused" else words[0]] += 1

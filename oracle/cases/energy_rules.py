@@ -22,11 +22,11 @@ def _is_looked_for(log):
     return write_float(log) in LOOKED_FOR or 1.0 <= abs(log) <= 700.0
 
 
-def _site(s, bay, strand):
+def site(s, bay, strand):
     return 0.0 if strand == 0 else s.bond(s.scaffold[bay], s.glue(strand, BOTTOM)) - s.logs[strand]
 
 
-def _edge(s, first, second, side, other):
+def edge(s, first, second, side, other):
     """Two neighbours by the sides that meet."""
     return 0.0 if 0 in (first, second) else s.bond(s.glue(first, side), s.glue(second, other))
 
@@ -35,15 +35,15 @@ def listing_sum(s, layout):
     total = 0.0
     for bay, strand in enumerate(layout):
         row, col = divmod(bay, s.cols)
-        total += _site(s, bay, strand)
+        total += site(s, bay, strand)
         if col > 0:
-            total += _edge(s, layout[bay - 1], strand, EAST, WEST)
+            total += edge(s, layout[bay - 1], strand, EAST, WEST)
         if row > 0:
-            total += _edge(s, layout[bay - s.cols], strand, SOUTH, NORTH)
+            total += edge(s, layout[bay - s.cols], strand, SOUTH, NORTH)
     return total
 
 
-def _asked(s):
+def is_asked(s):
     """What keeps the Rust from being asked, apart from refusals: a logarithm that no known concentration has."""
     return all(map(_is_looked_for, s.logs[1:]))
 
@@ -68,7 +68,7 @@ def _state_g(fields):
         total = listing_sum(s, layout)
         answer = _written(total * (R * s.kelvin))
         reasons = when(not total > -inf, 10, NO_ENERGY)
-    return judged(reasons, [], answer, _asked(s))
+    return judged(reasons, [], answer, is_asked(s))
 
 
 CALLS = {"state_g": _state_g}

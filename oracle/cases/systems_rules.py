@@ -123,9 +123,9 @@ def system(s, sides):
     return _sizes(s) + _lengths(s) + _glues(s, sides) + _energies(s) + _seeds(s)
 
 
-def _shapes(s, offsets, tiles, sets):
-    """5: the lent sets, and the constraints where there are any."""
-    reasons = when(sets != s.bays, 5, TABLE)
+def shapes(s, offsets, tiles, lent):
+    """5: what is lent to be filled, one place a bay, and the constraints where there are any."""
+    reasons = when(lent != s.bays, 5, TABLE)
     if offsets is not None:
         ends = len(offsets) == s.bays + 1 and offsets[0] == 0 and offsets[-1] == len(tiles)
         falls = any(a > b for a, b in zip(offsets, offsets[1:]))
@@ -155,15 +155,25 @@ def scan(s):
     return [row * s.cols + col for col in range(s.cols) for row in range(s.rows)]
 
 
+def read_constraints(fields):
+    """Offsets and tiles; where there are no constraints, None and nothing."""
+    offsets = read_or(fields, "offsets", read_numbers, None)
+    return offsets, [] if offsets is None else read_small(fields, "tiles")
+
+
+def legal_sets(s, offsets, tiles):
+    """The legal strands of each bay under constraints in order, row by row."""
+    lists = [[]] * s.bays if offsets is None else [tiles[a:b] for a, b in zip(offsets, offsets[1:])]
+    return [listed(legal(s, bay), lists[bay]) for bay in range(s.bays)]
+
+
 def _allowed_tiles(fields):
     s = System(fields)
-    offsets = read_or(fields, "offsets", read_numbers, None)
-    tiles = [] if offsets is None else read_small(fields, "tiles")
-    reasons = system(s, False) + _shapes(s, offsets, tiles, read_or(fields, "sets_length", read_number, s.bays))
+    offsets, tiles = read_constraints(fields)
+    reasons = system(s, False) + shapes(s, offsets, tiles, read_or(fields, "sets_length", read_number, s.bays))
     answer = None
     if not reasons:
-        lists = [[]] * s.bays if offsets is None else [tiles[a:b] for a, b in zip(offsets, offsets[1:])]
-        sets = [listed(legal(s, bay), lists[bay]) for bay in range(s.bays)]
+        sets = legal_sets(s, offsets, tiles)
         answer = f"sets {write_list(sum(1 << t for t in strands) for strands in sets)}"
         empty = [bay for bay in scan(s) if not sets[bay]]
         if empty:

@@ -1,5 +1,6 @@
 """What a module of rules says of a case: the line that document 01 gives, and what the Rust has to answer there."""
 
+from collections.abc import Callable
 from dataclasses import dataclass
 
 from casefile import Unreadable, read_line
@@ -13,12 +14,15 @@ CANNOT = "cannot be asked"
 class Verdict:
     """The line that 01 gives, or None where the Rust's is to be taken, and what the Rust has to answer:
     `answer`, `panic`, `none` or `unreadable`. `difference` names the recorded one, where there is one.
-    `answer` is the whole line of an answer of the Rust's, where the rules can tell it."""
+    `answer` is the whole line of an answer of the Rust's, where the rules can tell it; where they can only tell whether it
+    is one of several, `fits` does. `rest` is what the rules add to a line of the Rust's."""
 
     line: str | None
     rust: str
     difference: str | None = None
     answer: str | None = None
+    fits: Callable[[str], bool] | None = None
+    rest: str = ""
 
 
 def verdict_of(line, calls):

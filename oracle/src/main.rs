@@ -24,6 +24,7 @@ mod cases;
 mod layouts;
 mod names;
 mod reach;
+mod runs;
 mod sequences;
 mod systems;
 
@@ -48,6 +49,7 @@ const CALLS: &[(&str, Call)] = &[
     ("allowed_tiles", systems::allowed_tiles),
     ("bonds", systems::bonds),
     ("state_g", layouts::state_g),
+    ("mfe_configuration", runs::mfe_configuration),
 ];
 
 /// The answer line of a case. A panic counts as the Rust's only while the question runs.

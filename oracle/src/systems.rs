@@ -17,7 +17,7 @@ const MOST_STRANDS: u64 = 128;
 const LONGEST_MATRIX: u64 = 66_049;
 
 /// The constraints as the Rust takes them: of each row, of each column, a list of strands.
-type Lists = Vec<Vec<Vec<u32>>>;
+pub type Lists = Vec<Vec<Vec<u32>>>;
 
 /// A strand's or a glue's number, a seed's row or column.
 pub fn small(value: &[u8]) -> Option<u32> {
@@ -35,13 +35,13 @@ pub fn handed_only_if(fits: bool) -> Result<(), Stop> {
 
 /// A system as a case has it, both matrices filled.
 pub struct Lent {
-    rows: u64,
+    pub rows: u64,
     pub cols: u64,
     strands: u64,
-    pub glues: u64,
+    glues: u64,
     kelvin: f64,
-    pub strand_glues: Vec<u32>,
-    pub scaffold: Vec<u32>,
+    strand_glues: Vec<u32>,
+    scaffold: Vec<u32>,
     delta_g: Vec<f64>,
     entropy: Vec<f64>,
     pub logs: Vec<f64>,
@@ -84,6 +84,19 @@ impl Lent {
         let cells = u128::from(self.glues) * u128::from(self.glues);
         handed_only_if(self.delta_g.len() as u128 == cells && self.entropy.len() as u128 == cells)?;
         handed_only_if(self.logs.len() as u64 == self.strands && self.seeds.len() % 3 == 0)
+    }
+
+    /// No glue number is past the count.
+    pub fn has_known_glues(&self) -> bool {
+        self.strand_glues.iter().chain(&self.scaffold).all(|&glue| u64::from(glue) < self.glues)
+    }
+
+    /// Sizes, temperature and energies are such as document 01 takes; logarithms and seeds aside.
+    pub fn is_in_range(&self) -> bool {
+        let sides = (1..=32).contains(&self.rows) && (1..=32).contains(&self.cols);
+        let counts = (1..=64).contains(&self.strands) && (1..=256).contains(&self.glues);
+        let finite = self.delta_g.iter().chain(&self.entropy).all(|energy| energy.is_finite());
+        sides && counts && finite && (200.0..=500.0).contains(&self.kelvin)
     }
 
     /// The bays, row by row.
@@ -134,19 +147,19 @@ pub fn concentration(log: f64) -> Result<Molar, Stop> {
 }
 
 /// The constraints, where the case has any: offsets and the lists that they cut.
-struct Constraints {
+pub struct Constraints {
     offsets: Vec<u64>,
     tiles: Vec<u32>,
 }
 
 impl Constraints {
-    fn read(case: &Case) -> Result<Option<Self>, Stop> {
+    pub fn read(case: &Case) -> Result<Option<Self>, Stop> {
         let offsets = case.or("offsets", |case, key| case.list(key, number).map(Some), None)?;
         offsets.map(|offsets| Ok(Constraints { offsets, tiles: case.list("tiles", small)? })).transpose()
     }
 
     /// A list for each bay of the grid, if the offsets cut the tiles into so many.
-    fn lists(&self, rows: usize, cols: usize) -> Result<Lists, Stop> {
+    pub fn lists(&self, rows: usize, cols: usize) -> Result<Lists, Stop> {
         handed_only_if(self.offsets.len() == rows * cols + 1)?;
         handed_only_if(self.offsets.first() == Some(&0) && self.offsets.last() == Some(&(self.tiles.len() as u64)))?;
         let cut = self.offsets.windows(2).map(|two| self.tiles.get(two[0] as usize..two[1] as usize));
