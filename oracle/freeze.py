@@ -17,14 +17,14 @@ sys.path.insert(0, str(Path(__file__).parent / "cases"))
 import casefile  # noqa: E402
 import energy_rules  # noqa: E402
 import keys_rules  # noqa: E402
+import layouts_rules  # noqa: E402
 import names_rules  # noqa: E402
 import rules  # noqa: E402
-import runs_rules  # noqa: E402
 import systems_rules  # noqa: E402
 from verdicts import verdict_of  # noqa: E402
 
 # The rules of each call, and the form of an answer where they do not tell all of it.
-RULES = [rules, names_rules, keys_rules, systems_rules, energy_rules, runs_rules]
+RULES = [rules, names_rules, keys_rules, systems_rules, energy_rules, layouts_rules]
 CALLS = {call: verdict for module in RULES for call, verdict in module.CALLS.items()}
 FINITE = "(?![7f]ff)[0-9a-f]{16}"
 FORM = {

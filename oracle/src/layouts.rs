@@ -1,41 +1,48 @@
-//! The calls on layouts (sdc2d_thermo.rs). The system is that of the calls on systems, with the concentrations put in.
+//! The least-energy run (sdc2d_thermo.rs). The Rust has no ledger: the lengths of the lent tables are read and passed
+//! over, and its line is the energy and the layout.
 
-use crate::cases::{bits, Asked, Case, Stop};
+use crate::cases::{bits, listed, Asked, Case, Stop};
+use crate::energy::{concentrations, stocked};
 use crate::models::sdc2d::SDC2DSquare;
-use crate::systems::{concentration, handed_only_if, small, Lent};
-use crate::units::Molar;
+use crate::models::sdc2d_thermo::ask;
+use crate::systems::{handed_only_if, Constraints, Lent, Lists};
 
-/// The logarithms for which a concentration is looked for: elsewhere some have one and some have none.
-fn is_looked_for(log: f64) -> bool {
-    log == f64::NEG_INFINITY || log.to_bits() == 0 || (1.0..=700.0).contains(&log.abs())
+/// With more rows in all its tables a run is not put to the Rust: it would take too long.
+const MOST_ROWS: u64 = 65_536;
+
+/// How many rows the tables of a run have, one after another.
+fn rows_of_tables(s: &SDC2DSquare, rows: usize, cols: usize, lists: Option<&Lists>) -> u64 {
+    let legal = |&(row, col): &(usize, usize)| {
+        ask::constrained_allowed_tiles_at(s, row, col, lists.map(Vec::as_slice)).len() as u64
+    };
+    let counts: Vec<_> = ask::scan(rows, cols).iter().map(legal).collect();
+    let table = |end: usize| {
+        let window = &counts[end.saturating_sub(rows.min(cols))..end];
+        window.iter().fold(1, |rows: u64, &count| rows.saturating_mul(count))
+    };
+    (1..=counts.len()).map(table).fold(0, u64::saturating_add)
 }
 
-/// The concentration of each strand but 0, whose logarithm nothing reads.
-pub fn concentrations(logs: &[f64]) -> Result<Vec<Molar>, Stop> {
-    let named = logs.get(1..).unwrap_or_default();
-    handed_only_if(named.iter().all(|&log| is_looked_for(log)))?;
-    named.iter().map(|&log| concentration(log)).collect()
-}
-
-/// The Rust's system with these concentrations.
-pub fn stocked(lent: &Lent, concentrations: Vec<Molar>) -> SDC2DSquare {
-    let mut s = lent.square();
-    for (place, concentration) in concentrations.into_iter().enumerate() {
-        s.strand_concentration[place + 1] = concentration;
-    }
-    s
-}
-
-/// The energy of a layout. Which glues are read depends on the layout, so a system with one past the count is not asked.
-pub fn state_g(case: &Case) -> Result<Asked, Stop> {
+/// The least energy and its layout. A system that document 01 refuses with 1 to 3 is not asked: what a run reads of it
+/// depends on the rest.
+pub fn mfe_configuration(case: &Case) -> Result<Asked, Stop> {
     let lent = Lent::read(case)?;
-    let layout = case.list("layout", small)?;
+    let constraints = Constraints::read(case)?;
+    let length = case.or("layout_length", |case, key| case.number(key).map(Some), None)?;
+    case.or("energies_length", Case::number, 0)?;
+    case.or("leaving_length", Case::number, 0)?;
     lent.check()?;
-    handed_only_if(lent.has_known_glues())?;
+    handed_only_if(lent.is_in_range() && lent.has_known_glues())?;
+    let (rows, cols) = (lent.rows as usize, lent.cols as usize);
+    handed_only_if(length.unwrap_or(lent.rows * lent.cols) == lent.rows * lent.cols)?;
+    let lists = constraints.map(|constraints| constraints.lists(rows, cols)).transpose()?;
     let concentrations = concentrations(&lent.logs)?;
     Ok(Box::new(move || {
         let s = stocked(&lent, concentrations);
-        let rows: Vec<_> = layout.chunks(lent.cols as usize).map(<[u32]>::to_vec).collect();
-        format!("energy {}", bits(s.state_g(&rows)))
+        if rows_of_tables(&s, rows, cols, lists.as_ref()) > MOST_ROWS {
+            return "none".to_string();
+        }
+        let (layout, energy) = ask::mfe_configuration(&s, lists.as_deref());
+        format!("least {} layout={}", bits(energy), listed(&layout.concat()))
     }))
 }

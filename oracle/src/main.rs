@@ -21,10 +21,10 @@ mod state;
 mod system;
 
 mod cases;
+mod energy;
 mod layouts;
 mod names;
 mod reach;
-mod runs;
 mod sequences;
 mod systems;
 
@@ -48,8 +48,8 @@ const CALLS: &[(&str, Call)] = &[
     ("seeds_by_name", names::seeds_by_name),
     ("allowed_tiles", systems::allowed_tiles),
     ("bonds", systems::bonds),
-    ("state_g", layouts::state_g),
-    ("mfe_configuration", runs::mfe_configuration),
+    ("state_g", energy::state_g),
+    ("mfe_configuration", layouts::mfe_configuration),
 ];
 
 /// The answer line of a case. A panic counts as the Rust's only while the question runs.

@@ -1,5 +1,5 @@
 #!/usr/bin/env python3
-"""Holds frozen runs against every legal filling there is: oracle/cases/enumerate_runs.py CASES ANSWERS
+"""Holds frozen runs against every legal filling there is: oracle/cases/enumerate_layouts.py CASES ANSWERS
 
 No ledger is made here. Of each case that is answered, or refused with 10, and has few legal layouts, all of them are
 listed, with their scan sums bay by bay. Then 10 has to stand exactly where one of these sums is NaN or minus infinity; each

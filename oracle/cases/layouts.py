@@ -1,8 +1,8 @@
 #!/usr/bin/env python3
 """Writes the case file for least-energy runs to standard output, the same bytes each time.
 
-    oracle/cases/runs.py                      the cases of crates/answers_runs/stdin
-    oracle/cases/runs.py --large N --seed S   N cases of all kinds at random, for comparisons by hand
+    oracle/cases/layouts.py                      the cases of crates/answers_layouts/stdin
+    oracle/cases/layouts.py --large N --seed S   N cases of all kinds at random, for comparisons by hand
 
 How many cases each kind has goes to standard error.
 """
@@ -15,7 +15,7 @@ from casefile import read_line, write_float
 from draw_systems import CHOSEN, INFINITE, LARGE, MINUS_ZERO, WARM, ZERO, ZEROS, line, with_lists
 from energy import APART, LARGEST, LEAST, MINUS_LEAST, TWICE_LEAST, EnergyDraw
 from generate import generate
-from runs_rules import rows_needed
+from layouts_rules import rows_needed
 from systems_faults import HUGE, NO_LOG, broken, longer, matrix, put, shorter
 from systems_limits import plain
 from systems_rules import System, legal_sets, read_constraints
@@ -331,4 +331,4 @@ def any_case(draw):
 
 
 if __name__ == "__main__":
-    generate("runs", SECTIONS, any_case, RunDraw)
+    generate("layouts", SECTIONS, any_case, RunDraw)
