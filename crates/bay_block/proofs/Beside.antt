@@ -11,9 +11,9 @@ use borrow.Author.Tests.{lt-ltb, le-ltb}
 use Rattle.sets.specs.Set.{has, nextOf}
 use Rattle.sets.proofs.Members.{member, past}
 use Rattle.sets.proofs.Walk.{start, following}
-use Rattle.ledger_fill.specs.Handed.{strandsOf}
-use Rattle.ledger_fill.specs.Bays.{besideAt, followingIn}
-use Rattle.ledger_fill.proofs.Reading.{any-default}
+use Rattle.row_choice.specs.Row.{strandsOf}
+use Rattle.bay_block.specs.Block.{besideAt, followingIn}
+use Rattle.row_choice.proofs.Reading.{any-default}
 
 -- the next number's rest: one more, or 0 where that is the whole
 rest-more : (q c : ℕ) → 0 < c → q % c + 1 < c → (q + 1) % c ≡ q % c + 1

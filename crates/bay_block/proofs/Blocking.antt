@@ -10,11 +10,11 @@ use Rattle.floats.specs.declared.Choice.{Choice}
 use Rattle.sets.specs.Set.{has, nextOf}
 use Rattle.ledger_rows.specs.Blocks.{flat}
 use Rattle.ledger_rows.proofs.Lists.{length-tab, flat-none, flat-more, length-flat}
-use Rattle.ledger_fill.specs.declared.bays.Bay.{Bay}
-use Rattle.ledger_fill.specs.Handed.{strandsOf}
-use Rattle.ledger_fill.specs.Bays.{over, part, Writable, ownRow, ownOf, bayLine, besideAt, followingIn, bayBlock}
-use Rattle.ledger_fill.proofs.Beside.{beside-small, beside-first, beside-next}
-use Rattle.ledger_fill.proofs.Over.{over-none, length-over, part-over, over-over}
+use Rattle.bay_block.specs.declared.Bay.{Bay}
+use Rattle.row_choice.specs.Row.{strandsOf, ownRow}
+use Rattle.bay_block.specs.Block.{over, part, Writable, ownOf, bayLine, besideAt, followingIn, bayBlock}
+use Rattle.bay_block.proofs.Beside.{beside-small, beside-first, beside-next}
+use Rattle.bay_block.proofs.Over.{over-none, length-over, part-over, over-over}
 
 -- the line for row q of what stays, in the table that holds one part of each row
 abbrev lineAt : {A : Type 0} → (Choice → A) → Bay → (here major side before : List Float) → ℕ → List A

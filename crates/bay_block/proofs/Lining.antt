@@ -13,10 +13,10 @@ use Rattle.sets.proofs.Walk.{Standing, begin, step, done}
 use Rattle.ledger_rows.specs.Blocks.{tab, candidateFrom}
 use Rattle.ledger_rows.proofs.Choosing.{chosen}
 use Rattle.ledger_rows.proofs.Lists.{length-tab, tab-none, tab-more}
-use Rattle.ledger_fill.specs.declared.rows.Own.{Own}
-use Rattle.ledger_fill.specs.Handed.{strandsOf}
-use Rattle.ledger_fill.specs.Bays.{over, part, ownAdds, ownRow}
-use Rattle.ledger_fill.proofs.Over.{over-none, length-over, over-store}
+use Rattle.row_choice.specs.declared.Own.{Own}
+use Rattle.row_choice.specs.Row.{strandsOf, ownAdds, ownRow}
+use Rattle.bay_block.specs.Block.{over, part}
+use Rattle.bay_block.proofs.Over.{over-none, length-over, over-store}
 
 -- a noted strand is below 64
 pub who-small : (own : Own) (major before : List Float) (leaving width q : ℕ) → 0 < length (strandsOf leaving) → ownRow own major before leaving width q .who < 64

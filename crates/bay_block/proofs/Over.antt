@@ -6,7 +6,7 @@ use native.Mathlib.Nat.{add-zero}
 use native.Mathlib.Omega.{arith}
 use lib.ListN.{length, getD, set, take, drop, length-append, length-drop, take-append-drop}
 use lib.Seq.{length-take-le, take-at, set-at, drop-cons, take-append-le, drop-append-le, drop-append-add, drop-drop}
-use Rattle.ledger_fill.specs.Bays.{over, part}
+use Rattle.bay_block.specs.Block.{over, part}
 
 module _ {A : Type 0} (old : List A) (at : ℕ) where
   pub over-none : over old at [] ≡ old

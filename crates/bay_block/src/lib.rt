@@ -2,11 +2,11 @@
 ghost use mathlib.Core.Path.{_≡_};
 ghost use Prim.Native.Nat.{_*_, _≤_, _<_};
 ghost use lib.ListN.{length};
-ghost use Rattle.ledger_fill.specs.Handed.{strandsOf};
-ghost use Rattle.ledger_fill.specs.Bays.{Writable, over, part, ownOf, bayLine, bayBlock, followingIn};
-use crate::rows::Own;
-use crate::rows::bond_at;
-use crate::rows::row;
+ghost use Rattle.row_choice.specs.Row.{strandsOf};
+ghost use Rattle.bay_block.specs.Block.{Writable, over, part, ownOf, bayLine, bayBlock, followingIn};
+use row_choice::Own;
+use row_choice::bond_at;
+use row_choice::row;
 
 // What the code knows of a bay when it writes its block.
 pub struct Bay {

@@ -13,7 +13,8 @@ use Rattle.ledger_rows.specs.Scan.{Scan}
 use Rattle.ledger_rows.specs.Blocks.{size, leavers, need}
 use Rattle.ledger_rows.specs.Trace.{below}
 use Rattle.ledger_rows.proofs.Numbering.{size-more, size-leavers}
-use Rattle.ledger_fill.specs.Handed.{strandsOf, setScan}
+use Rattle.row_choice.specs.Row.{strandsOf}
+use Rattle.ledger_fill.specs.Handed.{setScan}
 use Rattle.ledger_fill.specs.Bays.{leavingOf}
 use Rattle.ledger_fill.proofs.Agrees.{leaving-is}
 use Rattle.ledger_fill.proofs.Sizes.{need-mono, need-more}

@@ -4,8 +4,8 @@ use mathlib.Core.List.{List}
 use Prim.Native.Nat.{ℕ, _+_, _≤_, _<_}
 use native.Mathlib.Omega.{arith}
 use lib.ListN.{length, set, replicate, length-replicate, replicate-append-replicate}
-use Rattle.ledger_fill.specs.Bays.{over}
-use Rattle.ledger_fill.proofs.Over.{over-none, length-over, over-store}
+use Rattle.bay_block.specs.Block.{over}
+use Rattle.bay_block.proofs.Over.{over-none, length-over, over-store}
 
 module _ {A : Type 0} (v : A) (old : List A) where
   pub clearing-starts : old ≡ over old 0 (replicate 0 v)

@@ -20,12 +20,13 @@ use Rattle.ledger_rows.proofs.Rows.{length-energies}
 use Rattle.ledger_rows.proofs.Tables.{length-energy-table, length-note-table, notes-follow}
 use Rattle.ledger_rows.proofs.SameStrands.{size-same, need-same, leavers-same}
 use Rattle.ledger_rows.proofs.Answering.{answer-inside, note-leaves}
-use Rattle.ledger_fill.specs.declared.fill.Last.{Last}
-use Rattle.ledger_fill.specs.Handed.{strandsOf, addedOf, setScan, runScan, Fillable}
-use Rattle.ledger_fill.specs.Bays.{over, part}
+use Rattle.ledger_fill.specs.declared.Last.{Last}
+use Rattle.row_choice.specs.Row.{strandsOf}
+use Rattle.ledger_fill.specs.Handed.{addedOf, setScan, runScan, Fillable}
+use Rattle.bay_block.specs.Block.{over, part}
 use Rattle.ledger_fill.specs.Last.{lastOf}
 use Rattle.ledger_fill.proofs.Filling.{block-within, block-before}
-use Rattle.ledger_fill.proofs.Over.{length-over}
+use Rattle.bay_block.proofs.Over.{length-over}
 use Rattle.ledger_fill.proofs.Sizes.{need-mono, need-more}
 use Rattle.ledger.specs.Tracing.{inOrder, traceIn, Traceable}
 use Rattle.ledger.specs.Places.{placeOf, rowBack}

@@ -10,7 +10,8 @@ use lib.Seq.{drop-cons, drop-length, getD-set-same, drop-set-lt, lt-length-set}
 use Rattle.ledger_rows.specs.Scan.{Scan}
 use Rattle.ledger_rows.specs.Blocks.{size}
 use Rattle.ledger_rows.proofs.Numbering.{Digits, digits, size-more, size-leavers}
-use Rattle.ledger_fill.specs.Handed.{strandsOf, setScan}
+use Rattle.row_choice.specs.Row.{strandsOf}
+use Rattle.ledger_fill.specs.Handed.{setScan}
 use Rattle.ledger.specs.declared.back.Place.{Place}
 use Rattle.ledger.specs.Tracing.{inOrder, traceIn, Traceable}
 use Rattle.ledger.specs.Places.{placeOf, rowBack}

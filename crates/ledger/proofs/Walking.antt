@@ -11,8 +11,8 @@ use Rattle.sets.proofs.Members.{member}
 use Rattle.sets.proofs.Walk.{Counted, start, turn}
 use Rattle.ledger_rows.specs.Blocks.{heldAt, lower, lowest}
 use Rattle.ledger_rows.proofs.Choosing.{lowest-one, lowest-turn}
-use Rattle.ledger_fill.specs.Handed.{strandsOf}
-use Rattle.ledger_fill.proofs.Reading.{any-default}
+use Rattle.row_choice.specs.Row.{strandsOf}
+use Rattle.row_choice.proofs.Reading.{any-default}
 
 -- ---- the least row
 module _ (block : List Float) where

@@ -7,7 +7,7 @@ use lib.ListN.{replicate}
 use Rattle.ledger_rows.specs.Scan.{Scan}
 use Rattle.ledger_rows.specs.Blocks.{need, energyTable, noteTable}
 use Rattle.ledger_rows.specs.Trace.{answer, layout}
-use Rattle.ledger_fill.specs.Bays.{over}
+use Rattle.bay_block.specs.Block.{over}
 use Rattle.ledger.specs.Tracing.{inOrder}
 
 -- one where the run is answered, the other where it is refused with 10

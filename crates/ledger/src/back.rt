@@ -3,7 +3,8 @@ ghost use mathlib.Core.Path.{_≡_};
 ghost use Prim.Native.Nat.{suc, _+_, _-_, _%_, _<_};
 ghost use lib.ListN.{length, getD};
 ghost use Rattle.ledger_rows.specs.Blocks.{size};
-ghost use Rattle.ledger_fill.specs.Handed.{strandsOf, setScan};
+ghost use Rattle.row_choice.specs.Row.{strandsOf};
+ghost use Rattle.ledger_fill.specs.Handed.{setScan};
 ghost use Rattle.ledger.specs.Tracing.{inOrder, traceIn, Traceable};
 ghost use Rattle.ledger.specs.Places.{placeOf, rowBack};
 use crate::read::member;
@@ -36,7 +37,7 @@ fn step_back(window: usize, sets: &[u64], notes: &[u8], k: usize, at: Place) -> 
     let width = at.rows / count;
     let from = at.end - at.rows;
     let place = from + at.row;
-    let leaves = ledger_fill::fill::leaving(window, sets, k);
+    let leaves = ledger_fill::leaving(window, sets, k);
     let position = sets::position(leaves, wide(notes[place])) as usize;
     Place {
         row: position * width + at.row / count,

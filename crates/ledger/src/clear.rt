@@ -3,7 +3,7 @@ ghost use mathlib.Core.Path.{_≡_};
 ghost use Prim.Native.Nat.{_≤_};
 ghost use lib.Ieee.{binary64, ofBits};
 ghost use lib.ListN.{length, replicate};
-ghost use Rattle.ledger_fill.specs.Bays.{over};
+ghost use Rattle.bay_block.specs.Block.{over};
 
 // Sets the first `count` energies to 0.0.
 pub fn clear_energies(energies: &mut [f64], count: usize)

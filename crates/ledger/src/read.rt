@@ -3,7 +3,7 @@ ghost use mathlib.Core.Path.{_≡_};
 ghost use Prim.Native.Nat.{_<_};
 ghost use lib.ListN.{length, getD};
 ghost use Rattle.ledger_rows.specs.Blocks.{heldAt, lowest};
-ghost use Rattle.ledger_fill.specs.Handed.{strandsOf};
+ghost use Rattle.row_choice.specs.Row.{strandsOf};
 use floats::Choice;
 
 // The first least row of a block, with its energy.

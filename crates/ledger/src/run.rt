@@ -31,7 +31,7 @@ pub fn run(
     ensures { λ _. ⌜ now (energies .exit) ≡ energiesAfter (runScan window (now (sets .entry)) (now (bays .entry)) (now (major .entry)) (now (side .entry))) (length (now (sets .entry))) (now (energies .entry)) ⌝ }
     ensures { λ _. ⌜ now (notes .exit) ≡ notesAfter (runScan window (now (sets .entry)) (now (bays .entry)) (now (major .entry)) (now (side .entry))) (length (now (sets .entry))) (now (notes .entry)) ⌝ }
 {
-    let last = ledger_fill::fill::fill(window, sets, bays, major, side, energies, notes);
+    let last = ledger_fill::fill(window, sets, bays, major, side, energies, notes);
     let from = last.from;
     let end = last.end;
     let best = least_row(&energies[from..end]);

@@ -16,8 +16,10 @@ use Rattle.sets.specs.Set.{has, members}
 use Rattle.ledger_rows.specs.Scan.{Scan}
 use Rattle.ledger_rows.specs.Blocks.{tab, flat, size, leavers, newest, rowFrom, addsAt, blockOf}
 use Rattle.ledger_rows.proofs.Numbering.{leavers-early, leavers-late}
-use Rattle.ledger_fill.specs.Handed.{strandsOf, bondAt, withBond, addedOf, scanOf}
-use Rattle.ledger_fill.specs.Bays.{ownAdds, ownOf, besideAt, bayBlock, leavingOf, bayOf}
+use Rattle.row_choice.specs.Row.{strandsOf, bondAt, withBond, ownAdds}
+use Rattle.ledger_fill.specs.Handed.{addedOf, scanOf}
+use Rattle.bay_block.specs.Block.{ownOf, besideAt, bayBlock}
+use Rattle.ledger_fill.specs.Bays.{leavingOf, bayOf}
 
 -- while none leaves, strand 0 alone is counted
 alone-0 : strandsOf 1 ≡ 0 ∷ []

@@ -1,66 +1,10 @@
--- One bay's block, from what the code has at hand when it writes it. Assumes nothing.
+-- The bays of a run, as the code sees them one after the other. Assumes nothing.
 use mathlib.Core.Bool.{cond, not}
-use mathlib.Core.List.{List, _++_}
-use Prim.Native.Nat.{ℕ, _+_, _-_, _%_, _≤_, _<_}
-use lib.Dec.{eqb, leb, ltb}
-use lib.Ieee.{Float, nan, binary64, add}
-use lib.ListN.{length, getD, take, drop}
-use Rattle.floats.specs.declared.Choice.{Choice}
-use Rattle.sets.specs.Set.{has, nextOf}
-use Rattle.ledger_rows.specs.Blocks.{tab, flat, heldAt, rowFrom}
-use Rattle.ledger_fill.specs.declared.rows.Own.{Own}
-use Rattle.ledger_fill.specs.declared.bays.Bay.{Bay}
-use Rattle.ledger_fill.specs.Handed.{strandsOf, bondAt, withBond}
-
--- a stretch of a list is written anew, and nothing else
-abbrev pub over : {A : Type 0} → List A → ℕ → List A → List A
-over old at new = take at old ++ (new ++ drop (at + length new) old)
-
--- the part of a list from a place to another
-abbrev pub part : {A : Type 0} → (from end : ℕ) → List A → List A
-part from end l = take (end - from) (drop from l)
-
--- `count` rows fit both tables at `at`, behind the block before, and the bay's numbers are small enough to count with
-pub record Writable (b : Bay) (from end at count energies notes : ℕ) : Type 0 where
-  pub small : b .width ≤ 1048576
-  pub some-leave : 0 < length (strandsOf (b .leaving))
-  pub from-end : from ≤ end
-  pub behind : end ≤ at
-  pub energies-fit : at + count ≤ energies
-  pub notes-fit : at + count ≤ notes
-
--- what a strand adds, with strand s on the bay of the previous major line
-abbrev pub ownAdds : Own → (major : List Float) → (s : ℕ) → Float
-ownAdds own major s = withBond (own .beside) (own .side) (withBond (own .below) (bondAt major s (own .strand)) (own .bay))
-
--- the sum with which strand s leaves row i of the block before
-abbrev pub leftBy : Own → (major before : List Float) → (i s : ℕ) → Choice
-leftBy own major before i s = record { energy = add binary64 (heldAt before i) (ownAdds own major s); who = s }
-
--- the row for one strand: the lowest over the strands that leave
-abbrev pub ownRow : Own → (major before : List Float) → (leaving width q : ℕ) → Choice
-ownRow own major before leaving width q = rowFrom before width (strandsOf leaving) (λ a s. ownAdds own major s) q
-
--- what is fixed of strand t on a bay, with u on the previous bay
-abbrev pub ownOf : Bay → (row side : List Float) → (u t : ℕ) → Own
-ownOf b row side u t = record { strand = t; bay = getD row t nan; side = bondAt side u t; below = b .below; beside = b .beside }
-
--- one part of the rows for each strand of the bay, with u on the previous bay
-abbrev pub bayLine : {A : Type 0} → (Choice → A) → Bay → (row major side before : List Float) → (q u : ℕ) → List A
-bayLine part b row major side before q u =
-    tab (λ p. part (ownRow (ownOf b row side u (getD (strandsOf (b .set)) p 0)) major before (b .leaving) (b .width) q)) (length (strandsOf (b .set)))
-
--- the strand on the previous bay in rows q: it is the fastest that stays
-abbrev pub besideAt : (previous q : ℕ) → ℕ
-besideAt previous q = getD (strandsOf previous) (q % length (strandsOf previous)) 0
-
--- the strand behind u in a set, and the first one behind the last
-abbrev pub followingIn : (set u : ℕ) → ℕ
-followingIn set u = cond (ltb (nextOf (has set) (u + 1) 64) 64) (nextOf (has set) (u + 1) 64) (nextOf (has set) 0 64)
-
--- one part of the rows of the bay's block
-abbrev pub bayBlock : {A : Type 0} → (Choice → A) → Bay → (row major side before : List Float) → List A
-bayBlock part b row major side before = flat (λ q. bayLine part b row major side before q (besideAt (b .previous) q)) (b .width)
+use mathlib.Core.List.{List}
+use Prim.Native.Nat.{ℕ, _-_, _%_}
+use lib.Dec.{eqb, leb}
+use lib.ListN.{getD}
+use Rattle.bay_block.specs.declared.Bay.{Bay}
 
 -- the set that leaves as bay k comes: strand 0 alone while none does
 abbrev pub leavingOf : (window : ℕ) → (sets : List ℕ) → (k : ℕ) → ℕ

@@ -1,26 +1,14 @@
 -- The numbers that a run is handed, and the scan that they make: sets as words, one a bay in scan order; the bonds of all pairs of strands to the
 -- previous major line and to the previous bay; for each bay the energies of its strands. Assumes nothing.
-use mathlib.Core.Bool.{Bool, cond, not}
+use mathlib.Core.Bool.{cond, not}
 use mathlib.Core.List.{List, []}
-use Prim.Native.Nat.{ℕ, _+_, _-_, _*_, _%_, _≤_, _<_}
+use Prim.Native.Nat.{ℕ, _-_, _*_, _%_, _≤_, _<_}
 use lib.Dec.{eqb, leb}
-use lib.Ieee.{Float, nan, binary64, add}
+use lib.Ieee.{Float, nan}
 use lib.ListN.{length, getD, take, drop}
-use Rattle.sets.specs.Set.{has, members}
 use Rattle.ledger_rows.specs.Scan.{Scan, Filled}
 use Rattle.ledger_rows.specs.Blocks.{need}
-
--- the strands of a set, by rising number
-abbrev pub strandsOf : (set : ℕ) → List ℕ
-strandsOf set = members (has set) 64
-
--- the bond of strand s with strand t, which comes after it
-abbrev pub bondAt : (table : List Float) → (s t : ℕ) → Float
-bondAt table s t = getD table (s * 64 + t) nan
-
--- where a neighbour is there, its bond is added
-abbrev pub withBond : (there : Bool) → (bond x : Float) → Float
-withBond there bond x = cond there (add binary64 x bond) x
+use Rattle.row_choice.specs.Row.{strandsOf, bondAt, withBond}
 
 -- a bay's number: (bay + bond to the previous major line) + bond to the previous bay of this line, absent ones left out
 abbrev pub addedOf : (window : ℕ) → (rows : ℕ → List Float) → (major side : List Float) → (k s u t : ℕ) → Float

@@ -3,7 +3,7 @@ use Prim.Native.Nat.{ℕ, _-_}
 use lib.ListN.{length}
 use Rattle.ledger_rows.specs.Scan.{Scan}
 use Rattle.ledger_rows.specs.Blocks.{energies, need}
-use Rattle.ledger_fill.specs.declared.fill.Last.{Last}
+use Rattle.ledger_fill.specs.declared.Last.{Last}
 
 -- block n ends where the need of n bays ends
 abbrev pub lastOf : Scan → (n : ℕ) → Last

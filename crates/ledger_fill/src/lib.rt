@@ -1,14 +1,17 @@
-// All blocks of the ledger, and how many rows they need.
+// All blocks of the ledger, and how many rows they need, over numbers that it is handed: sets as words, two tables of bonds and the energies of each
+// bay's strands. It knows nothing of glues. What is written is a stretch of the tables and nothing else, and a contract says so by one equation of lists.
 ghost use mathlib.Core.Path.{_≡_};
 ghost use Prim.Native.Nat.{_-_, _*_, _/_, _≤_, _<_};
 ghost use lib.ListN.{length};
 ghost use Rattle.ledger_rows.specs.Scan.{Filled};
 ghost use Rattle.ledger_rows.specs.Blocks.{need, energyTable, noteTable};
-ghost use Rattle.ledger_fill.specs.Handed.{strandsOf, setScan, runScan, Fillable, capped};
-ghost use Rattle.ledger_fill.specs.Bays.{over, leavingOf, bayOf};
+ghost use Rattle.row_choice.specs.Row.{strandsOf};
+ghost use Rattle.ledger_fill.specs.Handed.{setScan, runScan, Fillable, capped};
+ghost use Rattle.bay_block.specs.Block.{over};
+ghost use Rattle.ledger_fill.specs.Bays.{leavingOf, bayOf};
 ghost use Rattle.ledger_fill.specs.Last.{lastOf};
-use crate::bays::Bay;
-use crate::bays::put_bay;
+use bay_block::Bay;
+use bay_block::put_bay;
 
 // The set that leaves the window as bay k comes: strand 0 alone while none does.
 pub fn leaving(window: usize, sets: &[u64], k: usize) -> u64

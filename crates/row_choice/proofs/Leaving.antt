@@ -15,9 +15,8 @@ use Rattle.sets.proofs.NextMember.{next-from}
 use Rattle.sets.proofs.Walk.{Standing, begin, step, done}
 use Rattle.ledger_rows.specs.Blocks.{lower, lowest, candidateFrom}
 use Rattle.ledger_rows.proofs.Choosing.{lowest-one, lowest-turn}
-use Rattle.ledger_fill.specs.declared.rows.Own.{Own}
-use Rattle.ledger_fill.specs.Handed.{strandsOf}
-use Rattle.ledger_fill.specs.Bays.{ownAdds, leftBy, ownRow}
+use Rattle.row_choice.specs.declared.Own.{Own}
+use Rattle.row_choice.specs.Row.{strandsOf, ownAdds, leftBy, ownRow}
 
 -- a walk goes up
 pub next-further : (set s u : ℕ) → s < 64 → u ≡ nextOf (has set) (s + 1) 64 → s < u

@@ -22,7 +22,7 @@ use Rattle.legal.proofs.Scanned.{bay-inside, number-inside, scanned, numbered}
 use Rattle.ledger_rows.specs.Scan.{Scan, In, Legal, scanSum}
 use Rattle.ledger_rows.specs.Blocks.{tab}
 use Rattle.ledger_rows.proofs.Lists.{tab-at, length-tab}
-use Rattle.ledger_fill.specs.Handed.{withBond}
+use Rattle.row_choice.specs.Row.{withBond}
 use Rattle.run_tables.specs.Tables.{byRows, window}
 use Rattle.sdc2d_thermo.specs.Run.{systemScan, rowByRow}
 use Rattle.sdc2d_thermo.specs.Layouts.{LegalLayout, scannedStrand, bayNumber, scanSumTo}

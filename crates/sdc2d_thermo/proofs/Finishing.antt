@@ -26,7 +26,7 @@ use Rattle.ledger_rows.specs.Trace.{answer, layout}
 use Rattle.ledger_fill.specs.Handed.{addedOf, setScan, runScan, capped}
 use Rattle.ledger_rows.proofs.SameStrands.{need-same}
 use Rattle.run_tables.specs.Tables.{window}
-use Rattle.ledger_fill.specs.Bays.{over}
+use Rattle.bay_block.specs.Block.{over}
 use Rattle.sdc2d_thermo.specs.Run.{roomVerdict, rowByRow, front, tableAfter, OnBoard, Roomy, Ran, Finished}
 use Rattle.sdc2d_thermo.proofs.TheRunIsRight.{no-energy-is}
 

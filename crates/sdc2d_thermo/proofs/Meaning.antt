@@ -25,7 +25,7 @@ use Rattle.legal.proofs.Seven.{set-of-bay}
 use Rattle.ledger_rows.specs.Scan.{Scan, In, Rising}
 use Rattle.ledger_rows.specs.Blocks.{tab}
 use Rattle.ledger_rows.proofs.Lists.{tab-at}
-use Rattle.ledger_fill.specs.Handed.{strandsOf, bondAt, withBond}
+use Rattle.row_choice.specs.Row.{strandsOf, bondAt, withBond}
 use Rattle.run_tables.specs.Tables.{byRows, window, scanSets, pairEnergy, bondTable, siteEnergy, siteTable}
 use Rattle.sdc2d_thermo.specs.Run.{systemScan}
 use Rattle.sdc2d_thermo.specs.Layouts.{bayNumber}

@@ -14,7 +14,7 @@ use Rattle.legal_at.specs.Legal.{isLegal}
 use Rattle.legal.specs.Scan.{bayAt}
 use Rattle.legal.specs.Sets.{bays}
 use Rattle.ledger_rows.specs.LeastEnergyTheorem.{LeastEnergyTheorem}
-use Rattle.ledger_fill.specs.Handed.{withBond}
+use Rattle.row_choice.specs.Row.{withBond}
 use Rattle.run_tables.specs.Tables.{byRows, window}
 use Rattle.sdc2d_thermo.specs.Run.{systemScan, leastSum, leastLayout}
 

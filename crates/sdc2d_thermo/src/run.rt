@@ -44,7 +44,7 @@ fn run_scan(
     requires { ⌜ OnBoard (z .rows) (z .cols) (length (now scan)) (length (now layout)) ⌝ }
     ensures { λ r. ⌜ Finished (roomVerdict (need (tableScan z (now («strand_glues» .entry)) (now (scaffold .entry)) (now («delta_g» .entry)) (now (entropy .entry)) (now (logs .entry)) (now (scan .entry))) (z .rows * z .cols)) (length (now (energies .entry))) (length (now (notes .entry)))) (tableScan z (now («strand_glues» .entry)) (now (scaffold .entry)) (now («delta_g» .entry)) (now (entropy .entry)) (now (logs .entry)) (now (scan .entry))) (z .rows) (z .cols) (z .kelvin) r (now (layout .entry)) (now (layout .exit)) (now (energies .entry)) (now (energies .exit)) (now (notes .entry)) (now (notes .exit)) ⌝ }
 {
-    let rows = ledger_fill::fill::need(window(z.rows, z.cols), scan);
+    let rows = ledger_fill::need(window(z.rows, z.cols), scan);
     match check_room(rows, energies.len(), notes.len()) {
         Check::Refused(r) => return EnergyAnswer::Refused(r),
         Check::Passed => (),

@@ -1,8 +1,8 @@
--- `ledger_fill::bays::following` meets its contract: behind the last strand comes the first. Assumes nothing.
+-- `bay_block::following` meets its contract: behind the last strand comes the first. Assumes nothing.
 use borrow.Author.Needs.{needs}
-use Rattle.ledger_fill.proofs.Beside.{following-on, following-round}
-use Rattle.ledger_fill.proofs.bays.following.Statement.{statement}
-use Rattle.ledger_fill.proofs.bays.following.Tie as tie
+use Rattle.bay_block.proofs.Beside.{following-on, following-round}
+use Rattle.bay_block.proofs.following.Statement.{statement}
+use Rattle.bay_block.proofs.following.Tie as tie
 
 add-next : tie.Need-add-next
 add-next c = search needs

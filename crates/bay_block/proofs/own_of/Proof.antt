@@ -1,7 +1,7 @@
--- `ledger_fill::bays::own_of` meets its contract: each field is the definition's. Assumes nothing.
+-- `bay_block::own_of` meets its contract: each field is the definition's. Assumes nothing.
 use borrow.Author.Needs.{needs}
-use Rattle.ledger_fill.proofs.bays.own_of.Statement.{statement}
-use Rattle.ledger_fill.proofs.bays.own_of.Tie as tie
+use Rattle.bay_block.proofs.own_of.Statement.{statement}
+use Rattle.bay_block.proofs.own_of.Tie as tie
 
 mul-t6 : tie.Need-mul-t6
 mul-t6 c = search needs

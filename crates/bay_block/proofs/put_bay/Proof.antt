@@ -1,4 +1,4 @@
--- `ledger_fill::bays::put_bay` meets its contract. The invariant: the lines of the first q rows of what stays are written. Assumes nothing.
+-- `bay_block::put_bay` meets its contract. The invariant: the lines of the first q rows of what stays are written. Assumes nothing.
 use mathlib.Core.Path.{_≡_}
 use Prim.Native.Nat.{_-_, _<_}
 use native.Mathlib.Omega.{arith}
@@ -7,11 +7,11 @@ use denote.Ref.{now}
 use borrow.Author.Needs.{needs}
 use Rattle.sets.specs.Set.{has}
 use Rattle.sets.proofs.Members.{length-le}
-use Rattle.ledger_fill.specs.Handed.{strandsOf}
-use Rattle.ledger_fill.specs.Bays.{Writable}
-use Rattle.ledger_fill.proofs.Blocking.{Blocking, block-starts, energies-kept, notes-kept, block-small, line-writable, block-turns, block-ends}
-use Rattle.ledger_fill.proofs.bays.put_bay.Statement.{statement}
-use Rattle.ledger_fill.proofs.bays.put_bay.Tie as tie
+use Rattle.row_choice.specs.Row.{strandsOf}
+use Rattle.bay_block.specs.Block.{Writable}
+use Rattle.bay_block.proofs.Blocking.{Blocking, block-starts, energies-kept, notes-kept, block-small, line-writable, block-turns, block-ends}
+use Rattle.bay_block.proofs.put_bay.Statement.{statement}
+use Rattle.bay_block.proofs.put_bay.Tie as tie
 
 abbrev Inv-loop : tie.InvT-loop
 Inv-loop bay here major side from end energies₀ notes₀ count u₀ at₀ q₀ energies notes u at q =

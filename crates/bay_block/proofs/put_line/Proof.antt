@@ -1,4 +1,4 @@
--- `ledger_fill::bays::put_line` meets its contract. The invariant: the rows of the strands below t are written. Assumes nothing.
+-- `bay_block::put_line` meets its contract. The invariant: the rows of the strands below t are written. Assumes nothing.
 use mathlib.Core.Path.{_≡_, sym, ap, ap₂, _∙_, subst}
 use mathlib.Core.List.{List}
 use Prim.Native.Nat.{ℕ, _-_, _<_}
@@ -10,14 +10,14 @@ use borrow.Author.Needs.{needs, scaled-fits}
 use Rattle.floats.specs.declared.Choice.{Choice}
 use Rattle.sets.specs.Set.{has, members}
 use Rattle.ledger_rows.specs.Blocks.{tab}
-use Rattle.ledger_fill.specs.declared.rows.Own.{Own}
-use Rattle.ledger_fill.specs.Handed.{strandsOf}
-use Rattle.ledger_fill.specs.Bays.{part, ownOf, ownRow}
-use Rattle.ledger_fill.proofs.Leaving.{next-further}
-use Rattle.ledger_fill.proofs.Lining.{Lining, who-small, line-starts, line-strand, line-turns, line-ends, energies-long, notes-long, energies-room, notes-room}
-use Rattle.ledger_fill.proofs.Over.{part-over}
-use Rattle.ledger_fill.proofs.bays.put_line.Statement.{statement}
-use Rattle.ledger_fill.proofs.bays.put_line.Tie as tie
+use Rattle.row_choice.specs.declared.Own.{Own}
+use Rattle.row_choice.specs.Row.{strandsOf, ownRow}
+use Rattle.bay_block.specs.Block.{part, ownOf}
+use Rattle.row_choice.proofs.Leaving.{next-further}
+use Rattle.bay_block.proofs.Lining.{Lining, who-small, line-starts, line-strand, line-turns, line-ends, energies-long, notes-long, energies-room, notes-room}
+use Rattle.bay_block.proofs.Over.{part-over}
+use Rattle.bay_block.proofs.put_line.Statement.{statement}
+use Rattle.bay_block.proofs.put_line.Tie as tie
 
 abbrev Inv-loop : tie.InvT-loop
 Inv-loop bay here major side q u from end at energies₀ notes₀ t₀ j₀ energies notes t j =

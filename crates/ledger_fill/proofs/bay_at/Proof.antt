@@ -1,4 +1,4 @@
--- `ledger_fill::fill::bay_at` meets its contract: each field is the definition's. Assumes nothing.
+-- `ledger_fill::bay_at` meets its contract: each field is the definition's. Assumes nothing.
 use mathlib.Core.Path.{_≡_, sym, ap, _∙_, subst}
 use mathlib.Core.Bool.{not}
 use mathlib.Core.List.{List}
@@ -7,11 +7,11 @@ use lib.Dec.{eqb, leb}
 use lib.ListN.{length, getD}
 use denote.Ref.{now}
 use borrow.Author.Needs.{needs}
-use Rattle.ledger_fill.specs.declared.bays.Bay.{Bay}
-use Rattle.ledger_fill.specs.Handed.{strandsOf}
+use Rattle.bay_block.specs.declared.Bay.{Bay}
+use Rattle.row_choice.specs.Row.{strandsOf}
 use Rattle.ledger_fill.specs.Bays.{leavingOf, bayOf}
-use Rattle.ledger_fill.proofs.fill.bay_at.Statement.{statement}
-use Rattle.ledger_fill.proofs.fill.bay_at.Tie as tie
+use Rattle.ledger_fill.proofs.bay_at.Statement.{statement}
+use Rattle.ledger_fill.proofs.bay_at.Tie as tie
 
 -- the bay from its fields
 made : (window : ℕ) (sets : List ℕ) (k rows : ℕ) {leaves before count : ℕ} → leaves ≡ leavingOf window sets k → before ≡ k - 1 → count ≡ length (strandsOf leaves)

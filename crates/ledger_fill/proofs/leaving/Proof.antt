@@ -1,4 +1,4 @@
--- `ledger_fill::fill::leaving` meets its contract. Assumes nothing.
+-- `ledger_fill::leaving` meets its contract. Assumes nothing.
 use mathlib.Core.Path.{sym, ap}
 use mathlib.Core.Bool.{cond}
 use Prim.Native.Nat.{_-_}
@@ -6,8 +6,8 @@ use lib.ListN.{getD}
 use denote.Ref.{now}
 use borrow.Author.Needs.{needs}
 use borrow.Author.Tests.{le-leb, lt-leb}
-use Rattle.ledger_fill.proofs.fill.leaving.Statement.{statement}
-use Rattle.ledger_fill.proofs.fill.leaving.Tie as tie
+use Rattle.ledger_fill.proofs.leaving.Statement.{statement}
+use Rattle.ledger_fill.proofs.leaving.Tie as tie
 
 mul-result : tie.Need-mul-result
 mul-result c = search needs

@@ -1,4 +1,4 @@
--- `ledger_fill::fill::need` meets its contract. The invariant: the rows of the first k bays are counted. Assumes nothing.
+-- `ledger_fill::need` meets its contract. The invariant: the rows of the first k bays are counted. Assumes nothing.
 use mathlib.Core.Path.{_≡_}
 use mathlib.Core.List.{List, []}
 use Prim.Native.Nat.{ℕ, suc, _+_, _-_}
@@ -10,8 +10,8 @@ use Rattle.ledger_rows.specs.Scan.{Scan}
 use Rattle.ledger_rows.specs.Blocks.{size}
 use Rattle.ledger_fill.specs.Handed.{setScan}
 use Rattle.ledger_fill.proofs.Sizes.{Coming, Counting, counting-starts, counting-comes, counting-turns, too-many, counting-ends, bay-small, bay-rows, rows-small}
-use Rattle.ledger_fill.proofs.fill.need.Statement.{statement}
-use Rattle.ledger_fill.proofs.fill.need.Tie as tie
+use Rattle.ledger_fill.proofs.need.Statement.{statement}
+use Rattle.ledger_fill.proofs.need.Tie as tie
 
 -- the sizes depend on no energy
 abbrev none : ℕ → List Float

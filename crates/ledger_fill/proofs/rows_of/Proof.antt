@@ -1,11 +1,11 @@
--- `ledger_fill::fill::rows_of` meets its contract: the product is small. Assumes nothing.
+-- `ledger_fill::rows_of` meets its contract: the product is small. Assumes nothing.
 use mathlib.Core.Path.{sym, ap, subst}
 use Prim.Native.Nat.{_*_, _≤_}
 use native.Mathlib.Omega.{arith}
 use borrow.Author.Needs.{needs}
 use Rattle.ledger_fill.proofs.Sizes.{product-small}
-use Rattle.ledger_fill.proofs.fill.rows_of.Statement.{statement}
-use Rattle.ledger_fill.proofs.fill.rows_of.Tie as tie
+use Rattle.ledger_fill.proofs.rows_of.Statement.{statement}
+use Rattle.ledger_fill.proofs.rows_of.Tie as tie
 
 size-requires : tie.Need-size-requires
 size-requires c κs = search needs

@@ -1,9 +1,9 @@
--- `ledger_fill::rows::candidate` meets its contract. Assumes nothing.
+-- `row_choice::candidate` meets its contract. Assumes nothing.
 use mathlib.Core.Path.{ap₂}
 use lib.Ieee.{Float, binary64, add}
 use borrow.Author.Needs.{needs}
-use Rattle.ledger_fill.proofs.rows.candidate.Statement.{statement}
-use Rattle.ledger_fill.proofs.rows.candidate.Tie as tie
+use Rattle.row_choice.proofs.candidate.Statement.{statement}
+use Rattle.row_choice.proofs.candidate.Tie as tie
 
 held-requires : tie.Need-held-requires
 held-requires c κs = search needs

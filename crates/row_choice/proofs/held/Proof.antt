@@ -1,12 +1,12 @@
--- `ledger_fill::rows::held` meets its contract. Assumes nothing.
+-- `row_choice::held` meets its contract. Assumes nothing.
 use mathlib.Core.Path.{sym}
 use lib.Ieee.{nan, binary64, ofBits}
 use lib.ListN.{List·getD-eq-default}
 use denote.Ref.{now}
 use borrow.Author.Needs.{needs}
-use Rattle.ledger_fill.proofs.Reading.{any-default}
-use Rattle.ledger_fill.proofs.rows.held.Statement.{statement}
-use Rattle.ledger_fill.proofs.rows.held.Tie as tie
+use Rattle.row_choice.proofs.Reading.{any-default}
+use Rattle.row_choice.proofs.held.Statement.{statement}
+use Rattle.row_choice.proofs.held.Tie as tie
 
 mul-result : tie.Need-mul-result
 mul-result c = search needs

@@ -1,9 +1,9 @@
--- `ledger_fill::rows::own_adds` meets its contract: the bond to the major line first, then the bond to the bay before. Assumes nothing.
+-- `row_choice::own_adds` meets its contract: the bond to the major line first, then the bond to the bay before. Assumes nothing.
 use mathlib.Core.Path.{ap, _∙_}
 use borrow.Author.Needs.{needs}
-use Rattle.ledger_fill.specs.Handed.{withBond}
-use Rattle.ledger_fill.proofs.rows.own_adds.Statement.{statement}
-use Rattle.ledger_fill.proofs.rows.own_adds.Tie as tie
+use Rattle.row_choice.specs.Row.{withBond}
+use Rattle.row_choice.proofs.own_adds.Statement.{statement}
+use Rattle.row_choice.proofs.own_adds.Tie as tie
 
 bond-at-requires : tie.Need-bond-at-requires
 bond-at-requires c κs = search needs

@@ -1,13 +1,13 @@
--- `ledger_fill::rows::row` meets its contract. The invariant: the choice among the strands below s, and the row that s leaves. Assumes nothing.
+-- `row_choice::row` meets its contract. The invariant: the choice among the strands below s, and the row that s leaves. Assumes nothing.
 use mathlib.Core.Path.{_≡_}
 use Prim.Native.Nat.{ℕ, _-_, _<_}
 use native.Mathlib.Omega.{arith}
 use denote.Ref.{now}
 use borrow.Author.Needs.{needs}
 use Rattle.sets.specs.Set.{has, nextOf}
-use Rattle.ledger_fill.proofs.Leaving.{next-further, Leaving, first, starts, turns, ends, place-small}
-use Rattle.ledger_fill.proofs.rows.row.Statement.{statement}
-use Rattle.ledger_fill.proofs.rows.row.Tie as tie
+use Rattle.row_choice.proofs.Leaving.{next-further, Leaving, first, starts, turns, ends, place-small}
+use Rattle.row_choice.proofs.row.Statement.{statement}
+use Rattle.row_choice.proofs.row.Tie as tie
 
 abbrev Inv-loop : tie.InvT-loop
 Inv-loop before q width leaving major own s₀ choice₀ i₀ s choice i = Leaving own major before leaving width q s i choice

@@ -1,6 +1,6 @@
--- `ledger_fill::rows::with_bond` meets its contract: each arm is the definition's. Assumes nothing.
-use Rattle.ledger_fill.proofs.rows.with_bond.Statement.{statement}
-use Rattle.ledger_fill.proofs.rows.with_bond.Tie as tie
+-- `row_choice::with_bond` meets its contract: each arm is the definition's. Assumes nothing.
+use Rattle.row_choice.proofs.with_bond.Statement.{statement}
+use Rattle.row_choice.proofs.with_bond.Tie as tie
 
 returns : tie.Need-returns
 returns c = rw (c .if1 .taken)

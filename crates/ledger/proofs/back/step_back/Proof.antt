@@ -9,7 +9,8 @@ use Rattle.sets.specs.Set.{has, members}
 use Rattle.ledger_rows.specs.Scan.{Scan}
 use Rattle.ledger_rows.specs.Blocks.{leavers, need, size}
 use Rattle.ledger_rows.specs.Trace.{below}
-use Rattle.ledger_fill.specs.Handed.{strandsOf, setScan}
+use Rattle.row_choice.specs.Row.{strandsOf}
+use Rattle.ledger_fill.specs.Handed.{setScan}
 use Rattle.ledger_fill.specs.Bays.{leavingOf}
 use Rattle.ledger.proofs.Backing.{OnRow, count-some, end-is, width-is, from-is, place-in, position-is, product-few, row-few, leaves-few, stepped}
 use Rattle.ledger.proofs.back.step_back.Statement.{statement}

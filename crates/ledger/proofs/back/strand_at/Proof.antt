@@ -5,7 +5,7 @@ use native.Mathlib.Nat.{mod-lt}
 use lib.ListN.{length, getD}
 use denote.Ref.{now}
 use borrow.Author.Needs.{needs}
-use Rattle.ledger_fill.specs.Handed.{strandsOf}
+use Rattle.row_choice.specs.Row.{strandsOf}
 use Rattle.ledger.proofs.back.strand_at.Statement.{statement}
 use Rattle.ledger.proofs.back.strand_at.Tie as tie
 

@@ -6,7 +6,7 @@ use lib.Ieee.{binary64, ofBits}
 use lib.ListN.{length, replicate}
 use denote.Ref.{now}
 use borrow.Author.Needs.{scaled-fits}
-use Rattle.ledger_fill.specs.Bays.{over}
+use Rattle.bay_block.specs.Block.{over}
 use Rattle.ledger.proofs.Clearing.{clearing-starts, clearing-long, clearing-turns}
 use Rattle.ledger.proofs.clear.clear_energies.Statement.{statement}
 use Rattle.ledger.proofs.clear.clear_energies.Tie as tie

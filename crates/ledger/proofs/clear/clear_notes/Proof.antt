@@ -4,7 +4,7 @@ use Prim.Native.Nat.{_-_, _≤_, _<_}
 use native.Mathlib.Omega.{arith}
 use lib.ListN.{length, replicate}
 use denote.Ref.{now}
-use Rattle.ledger_fill.specs.Bays.{over}
+use Rattle.bay_block.specs.Block.{over}
 use Rattle.ledger.proofs.Clearing.{clearing-starts, clearing-long, clearing-turns}
 use Rattle.ledger.proofs.clear.clear_notes.Statement.{statement}
 use Rattle.ledger.proofs.clear.clear_notes.Tie as tie

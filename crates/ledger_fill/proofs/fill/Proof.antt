@@ -1,14 +1,14 @@
--- `ledger_fill::fill::fill` meets its contract. The invariant: the blocks of the first k bays are written. Assumes nothing.
+-- `ledger_fill::fill` meets its contract. The invariant: the blocks of the first k bays are written. Assumes nothing.
 use mathlib.Core.Path.{_≡_, refl}
 use Prim.Native.Nat.{_+_, _-_, _*_, _≤_, _<_}
 use native.Mathlib.Omega.{arith}
 use lib.ListN.{length}
 use denote.Ref.{now}
-use Rattle.ledger_fill.specs.Handed.{strandsOf}
-use Rattle.ledger_fill.specs.Bays.{Writable}
+use Rattle.row_choice.specs.Row.{strandsOf}
+use Rattle.bay_block.specs.Block.{Writable}
 use Rattle.ledger_fill.proofs.Filling.{Filling, filling-starts, energies-whole, notes-whole, fill-comes, bay-in, here-long, bay-writable, previous-some, filling-turns, filling-ends}
-use Rattle.ledger_fill.proofs.fill.fill.Statement.{statement}
-use Rattle.ledger_fill.proofs.fill.fill.Tie as tie
+use Rattle.ledger_fill.proofs.fill.Statement.{statement}
+use Rattle.ledger_fill.proofs.fill.Tie as tie
 
 abbrev Inv-loop : tie.InvT-loop
 Inv-loop window sets bays major side energies₀ notes₀ rows₀ from₀ end₀ k₀ energies notes rows from end k =

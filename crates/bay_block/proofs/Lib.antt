@@ -1,0 +1,4 @@
+pub mod Over
+pub mod Lining
+pub mod Beside
+pub mod Blocking
