@@ -11,13 +11,7 @@ use units::EnergyAnswer;
 // The rows that a refusal 9 names; 0 of any other answer.
 fn rows_named(answer: EnergyAnswer) -> usize {
     match answer {
-        EnergyAnswer::Refused(r) => {
-            if r.number == 9 {
-                r.first
-            } else {
-                0
-            }
-        }
+        EnergyAnswer::Refused(r) => { if r.number == 9 { r.first } else { 0 } }
         EnergyAnswer::Energy(_) => 0,
     }
 }

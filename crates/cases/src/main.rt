@@ -8,7 +8,11 @@ use libc::STDOUT_FILENO;
 
 // One more where a case came out otherwise.
 fn counted(differ: usize, right: bool) -> usize {
-    if right || 3 < differ { differ } else { differ + 1 }
+    if right || 3 < differ {
+        differ
+    } else {
+        differ + 1
+    }
 }
 
 fn main() {

@@ -10,7 +10,7 @@ use Rattle.sets.specs.Set.{has, members}
 use Rattle.ledger_rows.specs.Blocks.{tab, flat, size, leavers, newest, lower, lowest, energies, notes}
 use Rattle.ledger_rows.specs.Trace.{below, trace, answerRow, answer, layout}
 use Rattle.ledger_fill.specs.Handed.{runScan}
-use Rattle.ledger.specs.Tracing.{inOrder}
+use Rattle.way_back.specs.Tracing.{inOrder}
 
 none : Float
 none = ofBits binary64 0

@@ -1,8 +1,5 @@
 pub mod Clearing
-pub mod Walking
-pub mod Position
-pub mod Backing
-pub mod Tracking
+pub mod Lowest
 pub mod Running
 pub mod TheRunIsRight
 pub mod Computed

@@ -28,10 +28,10 @@ use Rattle.ledger_fill.specs.Last.{lastOf}
 use Rattle.ledger_fill.proofs.Filling.{block-within, block-before}
 use Rattle.bay_block.proofs.Over.{length-over}
 use Rattle.ledger_fill.proofs.Sizes.{need-mono, need-more}
-use Rattle.ledger.specs.Tracing.{inOrder, traceIn, Traceable}
-use Rattle.ledger.specs.Places.{placeOf, rowBack}
+use Rattle.way_back.specs.Tracing.{inOrder, traceIn, Traceable}
+use Rattle.way_back.specs.Places.{placeOf, rowBack}
 use Rattle.ledger.specs.Run.{energiesAfter, notesAfter, orderAfter}
-use Rattle.ledger.proofs.Tracking.{back-inside}
+use Rattle.way_back.proofs.Tracking.{back-inside}
 
 -- what was written is written over by as many
 pub over-again : {A : Type 0} (old new newer : List A) → length new ≡ length newer → over (over old 0 new) 0 newer ≡ over old 0 newer

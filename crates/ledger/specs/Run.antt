@@ -8,7 +8,7 @@ use Rattle.ledger_rows.specs.Scan.{Scan}
 use Rattle.ledger_rows.specs.Blocks.{need, energyTable, noteTable}
 use Rattle.ledger_rows.specs.Trace.{answer, layout}
 use Rattle.bay_block.specs.Block.{over}
-use Rattle.ledger.specs.Tracing.{inOrder}
+use Rattle.way_back.specs.Tracing.{inOrder}
 
 -- one where the run is answered, the other where it is refused with 10
 abbrev pub ifAnswered : {A : Type 0} → Scan → ℕ → A → A → A

@@ -6,7 +6,7 @@ ghost use lib.ListN.{length, replicate};
 ghost use Rattle.bay_block.specs.Block.{over};
 
 // Sets the first `count` energies to 0.0.
-pub fn clear_energies(energies: &mut [f64], count: usize)
+pub(crate) fn clear_energies(energies: &mut [f64], count: usize)
     requires { ⌜ count ≤ length (now energies) ⌝ }
     ensures { λ _. ⌜ now (energies .exit) ≡ over (now (energies .entry)) 0 (replicate count (ofBits binary64 0)) ⌝ }
 {
@@ -18,7 +18,7 @@ pub fn clear_energies(energies: &mut [f64], count: usize)
 }
 
 // Sets the first `count` notes to 0.
-pub fn clear_notes(notes: &mut [u8], count: usize)
+pub(crate) fn clear_notes(notes: &mut [u8], count: usize)
     requires { ⌜ count ≤ length (now notes) ⌝ }
     ensures { λ _. ⌜ now (notes .exit) ≡ over (now (notes .entry)) 0 (replicate count 0) ⌝ }
 {

@@ -1,29 +1,17 @@
--- What a run works out once: sets in scan order, the bonds of all pairs of strands, and the energies of each bay's strands. A number below 64 that is
+-- What a run works out once: the bonds of all pairs of strands, and the energies of each bay's strands. A number below 64 that is
 -- no strand of the system has 0.0; no sum reads it. Assumes nothing.
 use Prim.Native.Nat.{ℕ, _*_, _/_, _%_, _≤_, _<_}
 use mathlib.Core.Path.{_≡_}
 use mathlib.Core.Bool.{Bool, cond, _&&_}
 use mathlib.Core.List.{List}
-use lib.Dec.{leb, ltb}
+use lib.Dec.{ltb}
 use lib.Ieee.{Float}
-use lib.ListN.{length, getD}
+use lib.ListN.{length}
 use Rattle.sdc2d.specs.declared.sizes.Sizes.{Sizes}
 use Rattle.bonds.specs.Bonds.{scaffoldGlue}
 use Rattle.beta_energies.specs.Energies.{nothing, bayEnergy, edgeEnergy}
 use Rattle.legal.specs.Scan.{bayAt}
 use Rattle.ledger_rows.specs.Blocks.{tab}
-
--- major lines are rows: the previous one is to the north, and the previous bay of the line to the west
-abbrev pub byRows : (rows cols : ℕ) → Bool
-byRows rows cols = leb cols rows
-
--- the shorter side: how long a major line is
-abbrev pub window : (rows cols : ℕ) → ℕ
-window rows cols = cond (byRows rows cols) cols rows
-
--- sets that stand row by row, in scan order
-abbrev pub scanSets : (rows cols : ℕ) → (sets : List ℕ) → List ℕ
-scanSets rows cols sets = tab (λ k. getD sets (bayAt rows cols k) 0) (rows * cols)
 
 -- the bond of two numbers below 64
 abbrev pub pairEnergy : Sizes → (strandGlues : List ℕ) → (deltaG entropy : List Float) → (northSouth : Bool) → (s t : ℕ) → Float

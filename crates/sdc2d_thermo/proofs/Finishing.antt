@@ -25,10 +25,14 @@ use Rattle.ledger_rows.specs.Blocks.{need, energyTable, noteTable}
 use Rattle.ledger_rows.specs.Trace.{answer, layout}
 use Rattle.ledger_fill.specs.Handed.{addedOf, setScan, runScan, capped}
 use Rattle.ledger_rows.proofs.SameStrands.{need-same}
-use Rattle.run_tables.specs.Tables.{window}
+use Rattle.scan_order.specs.Order.{window}
 use Rattle.bay_block.specs.Block.{over}
-use Rattle.sdc2d_thermo.specs.Run.{roomVerdict, rowByRow, front, tableAfter, OnBoard, Roomy, Ran, Finished}
-use Rattle.sdc2d_thermo.proofs.TheRunIsRight.{no-energy-is}
+use Rattle.run_room.specs.Room.{roomVerdict}
+use Rattle.least_layout.specs.Run.{rowByRow}
+use Rattle.sdc2d_thermo.specs.Run.{front, tableAfter}
+use Rattle.system_run.specs.Steps.{OnBoard, Roomy, Ran}
+use Rattle.sdc2d_thermo.specs.Steps.{Finished}
+use Rattle.least_layout.proofs.TheRunIsRight.{no-energy-is}
 
 -- ---- refused before anything is written
 refused-lays : {A : Type 0} {x : Check} {r : Refusal} (v u : Verdict) (new old : A) → x ≡ check v → x ≡ Refused r → old ≡ ifPasses (v ▷ u) new old

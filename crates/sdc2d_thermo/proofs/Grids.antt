@@ -23,11 +23,13 @@ use Rattle.legal.proofs.Fronts.{length-sets}
 use Rattle.legal.proofs.Scanned.{bay-inside}
 use Rattle.ledger_rows.specs.Scan.{Filled}
 use Rattle.ledger_fill.specs.Handed.{setScan}
-use Rattle.run_tables.specs.Tables.{window, scanSets, Stocked}
-use Rattle.sdc2d_thermo.specs.Run.{systemScan, OnBoard}
-use Rattle.sdc2d_thermo.proofs.Boards.{front-fits}
-use Rattle.sdc2d_thermo.proofs.Ordered.{tab-same}
-use Rattle.sdc2d_thermo.proofs.Passed.{filled}
+use Rattle.scan_order.specs.Order.{window, scanSets}
+use Rattle.run_tables.specs.Tables.{Stocked}
+use Rattle.least_layout.specs.Run.{systemScan}
+use Rattle.system_run.specs.Steps.{OnBoard}
+use Rattle.system_run.proofs.Boards.{front-fits}
+use Rattle.system_run.proofs.Ordered.{tab-same}
+use Rattle.least_layout.proofs.Passed.{filled}
 
 module _ (s : System) (c : Constraints) (lent : ℕ) (p : systemVerdict s ≡ passes) (q : shapeVerdict (s .sizes) lent c ≡ passes) where
   abbrev rows : ℕ

@@ -1,13 +1,4 @@
-pub mod Meaning
-pub mod EitherTable
-pub mod Fillings
-pub mod TheRunIsRight
-pub mod Passed
-pub mod Boards
 pub mod Finishing
 pub mod Grids
 pub mod Promised
 pub mod Unique
-pub mod Ordered
-pub mod RanOver
-pub mod Starred

@@ -17,7 +17,10 @@ use Rattle.sdc2d.specs.System.{System, systemVerdict}
 use Rattle.sdc2d.proofs.Tabled.{system-tabled}
 use Rattle.legal_at.specs.Lists.{Constraints, offsetsShaped}
 use Rattle.legal.specs.Sets.{bays, setsOf, shapeVerdict, firstEmpty, emptyVerdict}
-use Rattle.sdc2d_thermo.specs.Run.{systemScan, runNeed, leastSum, roomVerdict, earlyVerdict, sumVerdict, runVerdict, mfeAnswer, layoutAfter, energiesAfter, notesAfter, Finished}
+use Rattle.least_layout.specs.Run.{systemScan, runNeed, leastSum}
+use Rattle.sdc2d_thermo.specs.Run.{earlyVerdict, sumVerdict, runVerdict, mfeAnswer, layoutAfter, energiesAfter, notesAfter}
+use Rattle.run_room.specs.Room.{roomVerdict}
+use Rattle.sdc2d_thermo.specs.Steps.{Finished}
 
 -- every refusal has the values of its row
 run-tabled : (s : System) (c : Constraints) (layout energies notes : ℕ) → Tabled (runVerdict s c layout energies notes)

@@ -1,3 +1,2 @@
 pub mod Run
-pub mod Layouts
-pub mod Starred
+pub mod Steps

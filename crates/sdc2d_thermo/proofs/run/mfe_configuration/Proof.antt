@@ -10,7 +10,9 @@ use Rattle.sdc2d.specs.System.{System, system, systemVerdict}
 use Rattle.sdc2d.proofs.Fine.{Fine, fine}
 use Rattle.legal_at.specs.Lists.{Constraints, constraints}
 use Rattle.legal.specs.Sets.{setsOf, shapeVerdict, emptyVerdict}
-use Rattle.sdc2d_thermo.specs.Run.{systemScan, runNeed, roomVerdict, earlyVerdict}
+use Rattle.least_layout.specs.Run.{systemScan, runNeed}
+use Rattle.sdc2d_thermo.specs.Run.{earlyVerdict}
+use Rattle.run_room.specs.Room.{roomVerdict}
 use Rattle.sdc2d_thermo.proofs.Finishing.{stop, past}
 use Rattle.sdc2d_thermo.proofs.Promised.{promised}
 use Rattle.sdc2d_thermo.proofs.run.mfe_configuration.Statement.{statement}

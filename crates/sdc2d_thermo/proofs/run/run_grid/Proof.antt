@@ -11,8 +11,10 @@ use Rattle.sdc2d.specs.System.{System, system}
 use Rattle.legal_at.specs.Lists.{Constraints, constraints}
 use Rattle.legal.specs.Sets.{setsOf, emptyVerdict}
 use Rattle.ledger_rows.specs.Blocks.{need}
-use Rattle.run_tables.specs.Tables.{scanSets}
-use Rattle.sdc2d_thermo.specs.Run.{roomVerdict, tableScan, systemScan, runNeed, Finished}
+use Rattle.scan_order.specs.Order.{scanSets}
+use Rattle.run_room.specs.Room.{roomVerdict}
+use Rattle.least_layout.specs.Run.{tableScan, systemScan, runNeed}
+use Rattle.sdc2d_thermo.specs.Steps.{Finished}
 use Rattle.sdc2d_thermo.proofs.Finishing.{stop, past}
 use Rattle.sdc2d_thermo.proofs.Grids.{asks, board, stock, tables-read, in-scan, own-room, own-filled, empty-is}
 use Rattle.sdc2d_thermo.proofs.run.run_grid.Statement.{statement}

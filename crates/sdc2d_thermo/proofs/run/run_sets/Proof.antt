@@ -10,9 +10,11 @@ use Rattle.ledger_rows.specs.Scan.{Filled}
 use Rattle.ledger_rows.specs.Blocks.{need}
 use Rattle.ledger_rows.proofs.Lists.{length-tab}
 use Rattle.ledger_fill.specs.Handed.{setScan}
-use Rattle.run_tables.specs.Tables.{window}
-use Rattle.sdc2d_thermo.specs.Run.{roomVerdict, tableScan, Finished}
-use Rattle.sdc2d_thermo.proofs.Boards.{few-bays, front-fits}
+use Rattle.scan_order.specs.Order.{window}
+use Rattle.run_room.specs.Room.{roomVerdict}
+use Rattle.least_layout.specs.Run.{tableScan}
+use Rattle.sdc2d_thermo.specs.Steps.{Finished}
+use Rattle.system_run.proofs.Boards.{few-bays, front-fits}
 use Rattle.sdc2d_thermo.proofs.run.run_sets.Statement.{statement}
 use Rattle.sdc2d_thermo.proofs.run.run_sets.Tie as tie
 

@@ -1,0 +1,4 @@
+pub mod Meaning
+pub mod Fillings
+pub mod TheRunIsRight
+pub mod Passed

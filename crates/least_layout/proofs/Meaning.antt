@@ -1,0 +1,103 @@
+-- The scan of a run in the system's own words: its strands are the legal ones, and what a strand adds is document 01's number. Assumes nothing.
+use Prim.Native.Nat.{ℕ, zero, suc, _+_, _*_, _/_, _%_, _^_, _≤_, _<_}
+use mathlib.Core.Path.{_≡_, refl, sym, _∙_, ap, ap₂, subst}
+use mathlib.Core.Bool.{Bool, true, false, cond, not, _&&_, true≢false}
+use mathlib.Core.List.{List, []}
+use native.Mathlib.Nat.{lt-of-lt-of-le}
+use native.Mathlib.Omega.{arith}
+use lib.Arith.{digits-lt, digits-div, digits-mod}
+use lib.Dec.{eqb, leb, ltb}
+use lib.Ieee.{Float, nan}
+use lib.ListN.{length, getD, take, drop}
+use lib.Seq.{getD-take, getD-drop}
+use borrow.Author.Tests.{lt-ltb, ltb-true}
+use Rattle.sets.specs.Set.{has, word, members}
+use Rattle.sets.proofs.Words.{has-word, word-same, word-has}
+use Rattle.sets.proofs.Members.{Member, member, member-at, members-same, length-less, rising}
+use Rattle.sdc2d.specs.System.{System}
+use Rattle.beta_energies.specs.Energies.{nothing, bayEnergy, edgeEnergy}
+use Rattle.legal_at.specs.Lists.{Constraints}
+use Rattle.legal_at.specs.Legal.{permitted, isLegal}
+use Rattle.legal.specs.Scan.{bayAt}
+use Rattle.legal.specs.Sets.{bays, setsOf}
+use Rattle.legal.proofs.Scanned.{bay-inside}
+use Rattle.legal.proofs.Seven.{set-of-bay}
+use Rattle.ledger_rows.specs.Scan.{Scan, In, Rising}
+use Rattle.ledger_rows.specs.Blocks.{tab}
+use Rattle.ledger_rows.proofs.Lists.{tab-at}
+use Rattle.row_choice.specs.Row.{strandsOf, bondAt, withBond}
+use Rattle.scan_order.specs.Order.{byRows, window, scanSets}
+use Rattle.run_tables.specs.Tables.{pairEnergy, bondTable, siteEnergy, siteTable}
+use Rattle.least_layout.specs.Run.{systemScan}
+use Rattle.least_layout.specs.Layouts.{bayNumber}
+
+and-left : (a b : Bool) → (a && b) ≡ true → a ≡ true
+and-left true b e = refl
+and-left false b e = e
+
+module _ (s : System) (c : Constraints) where
+  -- the bay that is scanned as number k
+  abbrev bay : ℕ → ℕ
+  bay k = bayAt (s .sizes .rows) (s .sizes .cols) k
+
+  -- a legal strand is a strand of the system
+  pub legal-below : (b t : ℕ) → isLegal s c b t ≡ true → t < s .sizes .strands
+  legal-below b t e = ltb-true t (s .sizes .strands) (and-left _ _ (and-left _ _ e))
+
+  scanned-set : (k : ℕ) → k < bays (s .sizes) → getD (scanSets (s .sizes .rows) (s .sizes .cols) (setsOf s c)) k 0 ≡ word (isLegal s c (bay k)) 64
+  scanned-set k h =
+      tab-at (λ (j : ℕ). getD (setsOf s c) (bay j) 0) (bays (s .sizes)) k 0 h
+      ∙ set-of-bay (isLegal s c) (bays (s .sizes)) (bay k) (bay-inside (s .sizes .rows) (s .sizes .cols) k h)
+
+  -- the strands of a bay are the legal ones, by rising number
+  pub strands-are : (k : ℕ) → k < bays (s .sizes) → systemScan s c .strands k ≡ members (isLegal s c (bay k)) 64
+  strands-are k h =
+      ap strandsOf (scanned-set k h) ∙ members-same (has (word (isLegal s c (bay k)) 64)) (isLegal s c (bay k)) 64 (λ t l. has-word (isLegal s c (bay k)) 64 t l)
+
+  pub strands-rise : (k : ℕ) → Rising (systemScan s c .strands k)
+  strands-rise k p q l h = rising (has (getD (scanSets (s .sizes .rows) (s .sizes .cols) (setsOf s c)) k 0)) 64 p q 0 l h
+
+  -- a strand stands among them exactly where it is legal
+  pub in-legal : (k t : ℕ) → k < bays (s .sizes) → In (systemScan s c .strands k) t → isLegal s c (bay k) t ≡ true
+  in-legal k t h i =
+      let legal = isLegal s c (bay k) in
+      let found : In (members legal 64) t = subst (λ (l : List ℕ). In l t) (strands-are k h) i in
+      ap legal (sym (found .2)) ∙ member legal 64 (found .0) 0 (found .1) .is-legal
+
+  pub legal-in : (k t : ℕ) → k < bays (s .sizes) → s .sizes .strands ≤ 64 → isLegal s c (bay k) t ≡ true → In (systemScan s c .strands k) t
+  legal-in k t h few e =
+      let legal = isLegal s c (bay k) in
+      let small : t < 64 = lt-of-lt-of-le (legal-below (bay k) t e) few in
+      subst (λ (l : List ℕ). In l t) (sym (strands-are k h)) (length (members legal t), length-less legal t 64 small e, member-at legal 64 t 0 small e)
+
+  -- ---- what a strand adds
+  pair-is : (northSouth : Bool) (a t : ℕ) → s .sizes .strands ≤ 64 → a < s .sizes .strands → t < s .sizes .strands
+      → bondAt (bondTable (s .sizes) (s .strandGlues) (s .deltaG) (s .entropy) northSouth) a t ≡ edgeEnergy (s .sizes) (s .strandGlues) (s .deltaG) (s .entropy) northSouth a t
+  pair-is northSouth a t few h k =
+      let f : ℕ → Float = λ i. pairEnergy (s .sizes) (s .strandGlues) (s .deltaG) (s .entropy) northSouth (i / 64) (i % 64) in
+      let small : t < 64 = lt-of-lt-of-le k few in
+      let inside : a * 64 + t < 4096 = omega (arith, small, lt-of-lt-of-le h few) in
+      tab-at f 4096 (a * 64 + t) nan inside
+      ∙ ap₂ (pairEnergy (s .sizes) (s .strandGlues) (s .deltaG) (s .entropy) northSouth) (digits-div a small) (digits-mod a small)
+      ∙ ap₂ (λ (p q : Bool). cond (p && q) (edgeEnergy (s .sizes) (s .strandGlues) (s .deltaG) (s .entropy) northSouth a t) nothing) (lt-ltb a (s .sizes .strands) h) (lt-ltb t (s .sizes .strands) k)
+
+  site-is : (k t : ℕ) → k < bays (s .sizes) → s .sizes .strands ≤ 64 → t < s .sizes .strands
+      → getD (take 64 (drop (k * 64) (siteTable (s .sizes) (s .strandGlues) (s .scaffold) (s .deltaG) (s .entropy) (s .logs)))) t nan
+      ≡ bayEnergy (s .sizes) (s .strandGlues) (s .scaffold) (s .deltaG) (s .entropy) (s .logs) (bay k) t
+  site-is k t h few ht =
+      let site : ℕ → ℕ → Float = siteEnergy (s .sizes) (s .strandGlues) (s .scaffold) (s .deltaG) (s .entropy) (s .logs) in
+      let table = siteTable (s .sizes) (s .strandGlues) (s .scaffold) (s .deltaG) (s .entropy) (s .logs) in
+      let small : t < 64 = lt-of-lt-of-le ht few in
+      getD-take 64 (drop (k * 64) table) t nan small
+      ∙ getD-drop (k * 64) table t nan
+      ∙ tab-at (λ (i : ℕ). site (bay (i / 64)) (i % 64)) (bays (s .sizes) * 64) (k * 64 + t) nan (digits-lt h small)
+      ∙ ap₂ (λ (j u : ℕ). site (bay j) u) (digits-div k small) (digits-mod k small)
+      ∙ ap (λ (p : Bool). cond p (bayEnergy (s .sizes) (s .strandGlues) (s .scaffold) (s .deltaG) (s .entropy) (s .logs) (bay k) t) nothing) (lt-ltb t (s .sizes .strands) ht)
+
+  pub added-is : (k a u t : ℕ) → k < bays (s .sizes) → s .sizes .strands ≤ 64 → a < s .sizes .strands → u < s .sizes .strands → t < s .sizes .strands
+      → systemScan s c .added k a u t ≡ bayNumber s k a u t
+  added-is k a u t h few ha hu ht =
+      let lines = byRows (s .sizes .rows) (s .sizes .cols) in
+      let m = window (s .sizes .rows) (s .sizes .cols) in
+      ap₂ (withBond (not (eqb (k % m) 0))) (pair-is (not lines) u t few hu ht)
+      (ap₂ (withBond (leb m k)) (pair-is lines a t few ha ht) (site-is k t h few ht))

@@ -1,0 +1,75 @@
+-- What passed tests give a run: sizes that fit, and a legal strand on each bay. Assumes nothing.
+use Prim.Native.Nat.{ℕ, _*_, _≤_, _<_}
+use mathlib.Core.Path.{_≡_, refl, sym, _∙_, ap, subst}
+use mathlib.Core.Bool.{Bool, true, false, cond}
+use mathlib.Core.List.{List, [], _∷_}
+use native.Mathlib.Decide.{decLt}
+use native.Mathlib.Omega.{arith}
+use lib.Dec.{leb}
+use lib.ListN.{length, getD}
+use Rattle.units.specs.Refusals.{Verdict, passes, refuses, numberIn}
+use Rattle.sets.specs.Set.{word, members}
+use Rattle.sets.proofs.Words.{word-same}
+use Rattle.sets.proofs.Members.{length-less}
+use Rattle.sets.proofs.Operations.{word-none}
+use Rattle.sdc2d.specs.System.{System}
+use Rattle.sdc2d.proofs.Fine.{Fine}
+use Rattle.legal_at.specs.Lists.{Constraints}
+use Rattle.legal_at.specs.Legal.{isLegal}
+use Rattle.legal.specs.Scan.{bayAt}
+use Rattle.legal.specs.Sets.{bays, setsOf, emptyVerdict}
+use Rattle.legal.proofs.Scanned.{bay-inside}
+use Rattle.legal.proofs.Seven.{seven, set-of-bay}
+use Rattle.ledger_rows.specs.Scan.{Filled}
+use Rattle.scan_order.specs.Order.{window}
+use Rattle.least_layout.specs.Run.{systemScan}
+use Rattle.least_layout.specs.Layouts.{LeastLayoutTheorem}
+use Rattle.least_layout.proofs.Meaning.{strands-are}
+use Rattle.least_layout.proofs.Fillings.{Fit}
+use Rattle.least_layout.proofs.TheRunIsRight.{the-run-is-right}
+
+-- the shorter side of a grid is there
+some-side : (b : Bool) (rows cols : ℕ) → 1 ≤ rows → 1 ≤ cols → 1 ≤ cond b cols rows
+some-side true rows cols r c = c
+some-side false rows cols r c = r
+
+pub fit : (s : System) → Fine s → Fit s
+fit s f =
+    let sizes = f .shape .sizes in
+    record {
+      some-strands = sizes .some-strands;
+      strands = sizes .strands;
+      some-window = some-side (leb (s .sizes .cols) (s .sizes .rows)) (s .sizes .rows) (s .sizes .cols) (sizes .some-rows) (sizes .some-cols);
+    }
+
+-- a set without members is 0
+no-members : (p : ℕ → Bool) → length (members p 64) ≡ 0 → word p 64 ≡ 0
+no-members p e = word-same p (λ t. false) 64 (λ t h. by t h (p t) refl) ∙ word-none 64
+  where
+    by : (t : ℕ) → t < 64 → (b : Bool) → p t ≡ b → p t ≡ false
+    by t h true q = absurd (omega (arith, length-less p t 64 h q, e))
+    by t h false q = q
+
+not-both : (v : Verdict) (values : List ℕ) → v ≡ passes → v ≡ refuses 7 values → ⊥
+not-both v values e f = let same : _≡_ {A = ℕ} 0 7 = ap numberIn (sym e ∙ f) in absurd (omega (arith, same))
+
+pub filled : (s : System) (c : Constraints) → emptyVerdict (s .sizes .rows) (s .sizes .cols) (setsOf s c) ≡ passes → Filled (systemScan s c) (bays (s .sizes))
+filled s c passed k h = by (decLt 0 (length (systemScan s c .strands k)))
+  where
+    bay : ℕ
+    bay = bayAt (s .sizes .rows) (s .sizes .cols) k
+
+    by : Dec (0 < length (systemScan s c .strands k)) → 0 < length (systemScan s c .strands k)
+    by (yes l) = l
+    by (no l) =
+        let inside = bay-inside (s .sizes .rows) (s .sizes .cols) k h in
+        let none : length (members (isLegal s c bay) 64) ≡ 0 = sym (ap length (strands-are s c k h)) ∙ zero-length l in
+        let empty : getD (setsOf s c) bay 0 ≡ 0 = set-of-bay (isLegal s c) (bays (s .sizes)) bay inside ∙ no-members (isLegal s c bay) none in
+        absurd (not-both (emptyVerdict (s .sizes .rows) (s .sizes .cols) (setsOf s c)) _ passed (seven (s .sizes .rows) (s .sizes .cols) (setsOf s c) bay inside empty .0))
+      where
+        zero-length : (0 < length (systemScan s c .strands k) → ⊥) → length (systemScan s c .strands k) ≡ 0
+        zero-length g = omega (arith, g)
+
+-- once the tests before the ledger have passed, the run is what the customer asks for
+pub run-is-right : (s : System) (c : Constraints) → Fine s → emptyVerdict (s .sizes .rows) (s .sizes .cols) (setsOf s c) ≡ passes → LeastLayoutTheorem s c
+run-is-right s c f e = the-run-is-right s c (fit s f) (filled s c e)

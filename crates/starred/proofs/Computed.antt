@@ -1,0 +1,29 @@
+-- Document 01's starred cases hold of the definitions, by computing them: one table, one statement. Assumes nothing.
+use mathlib.Core.Path.{_≡_, refl}
+use mathlib.Core.List.{map}
+use lib.Ieee.{round, ofBits, add, sub, mul, div, lt, le, ne}
+use Rattle.units.specs.Decimals.{decimal}
+use Rattle.units.specs.Finite.{finite}
+use Rattle.units.specs.Kelvin.{gasConstant}
+use Rattle.units.specs.Places.{firstFailing}
+use Rattle.bases.specs.Letters.{baseOf, isLetter}
+use Rattle.bases.specs.Steps.{noEnergy as Steps·noEnergy, stepOf, dgDs}
+use Rattle.bases.specs.Mismatches.{calcPenalty, penaltyTable}
+use Rattle.bases.specs.Loops.{loopPenalty, upTo, lengths, loopTable}
+use Rattle.sequence_pairs.specs.Pair.{windowsSum}
+use Rattle.utils.specs.Hundredths.{stepsHundredths, endTerm}
+use Rattle.utils.specs.Starred.{starred as Sequences·starred}
+use Rattle.sets.specs.Set.{has, word, members}
+use Rattle.entries.specs.Entries.{offsetsFrom}
+use Rattle.sdc2d.specs.System.{isLog, firstBadSeed}
+use Rattle.beta_energies.specs.Energies.{bayEnergy, edgeEnergy, noEnergy}
+use Rattle.legal_at.specs.Lists.{names}
+use Rattle.legal_at.specs.Legal.{seedAt}
+use Rattle.legal.specs.Sets.{setsTo, firstEmpty}
+use Rattle.ledger_rows.specs.Blocks.{tab, flat, size, leavers, newest, lower, lowest, energies, notes, need}
+use Rattle.ledger_rows.specs.Trace.{below, trace, answerRow}
+use Rattle.starred.specs.Cases.{Case, layouts, starred}
+
+pub starred-cases-hold : map (λ (c : Case). c .given) starred ≡ map (λ (c : Case). c .printed) starred
+unfolding layouts Sequences·starred decimal round ofBits finite gasConstant firstFailing baseOf isLetter Steps·noEnergy stepOf dgDs calcPenalty penaltyTable loopPenalty upTo lengths loopTable windowsSum stepsHundredths endTerm has word members offsetsFrom isLog firstBadSeed bayEnergy edgeEnergy noEnergy names seedAt setsTo firstEmpty tab flat size leavers newest lower lowest energies notes need below trace answerRow add sub mul div lt le ne
+starred-cases-hold = refl

@@ -1,0 +1,77 @@
+-- Document 01's starred cases, all of them, as one table of what the definitions give and what 01 prints: sequences first, then layouts. Assumes nothing.
+use Prim.Native.Nat.{ℕ, _*_}
+use mathlib.Core.Bool.{Bool, true, false}
+use mathlib.Core.List.{List, [], _∷_, _++_, map}
+use lib.Ieee.{Float, inf, binary64, ofBits}
+use lib.ListN.{replicate}
+use Rattle.units.specs.declared.EnergyAnswer.{EnergyAnswer}
+use Rattle.units.specs.declared.EnergyAnswer.the-variants.{Energy, Refused}
+use Rattle.units.specs.Decimals.{plus, minus}
+use Rattle.units.specs.Refusals.{refusal}
+use Rattle.utils.specs.Starred.{Outcome as Sequences·Outcome, Case as Sequences·Case, starred as Sequences·starred}
+use Rattle.sdc2d.specs.System.{System, system}
+use Rattle.legal_at.specs.Lists.{Constraints, constraints}
+use Rattle.legal_at.specs.Legal.{isLegal}
+use Rattle.sdc2d_thermo.specs.Run.{mfeAnswer}
+use Rattle.least_layout.specs.Run.{leastLayout, runNeed}
+
+-- what a case is about
+pub data Outcome : Type 0 where
+  sequence : Sequences·Outcome → Outcome
+  laid : List ℕ → Outcome
+  answered : EnergyAnswer → Outcome
+  legal : Bool → Outcome
+  needs : ℕ → Outcome
+
+pub record Case : Type 0 where
+  pub given : Outcome
+  pub printed : Outcome
+
+abbrev case : Outcome → Outcome → Case
+case given printed = record { given = given; printed = printed }
+
+-- 1×1 at 310.15 K: strand 1, whose bottom glue meets the bay's with this ΔG and ΔS
+abbrev one : (dg ds log : Float) → (seeds : List ℕ) → System
+one dg ds log seeds =
+    system (record { rows = 1; cols = 1; strands = 2; glues = 2; kelvin = plus 31015 100 })
+    (0 ∷ 0 ∷ 0 ∷ 0 ∷ 0 ∷ 0 ∷ 0 ∷ 0 ∷ 0 ∷ 1 ∷ []) (1 ∷ [])
+    (plus 0 1 ∷ plus 0 1 ∷ plus 0 1 ∷ dg ∷ []) (plus 0 1 ∷ plus 0 1 ∷ plus 0 1 ∷ ds ∷ []) (plus 0 1 ∷ log ∷ []) seeds
+
+-- a grid on whose every bay strands 0 and 1 are legal
+abbrev two : (rows cols : ℕ) → System
+two rows cols =
+    system (record { rows = rows; cols = cols; strands = 2; glues = 2; kelvin = plus 31015 100 })
+    (0 ∷ 0 ∷ 0 ∷ 0 ∷ 0 ∷ 0 ∷ 0 ∷ 0 ∷ 0 ∷ 1 ∷ []) (replicate (rows * cols) 1)
+    (plus 0 1 ∷ plus 0 1 ∷ plus 0 1 ∷ minus 1 1 ∷ []) (plus 0 1 ∷ plus 0 1 ∷ plus 0 1 ∷ plus 0 1 ∷ []) (plus 0 1 ∷ plus 0 1 ∷ []) []
+
+abbrev free : Constraints
+free = constraints false [] []
+
+-- the list of the one bay
+abbrev listed : List ℕ → Constraints
+listed [] = constraints true (0 ∷ 0 ∷ []) []
+listed (tile ∷ tiles) = constraints true (0 ∷ 1 ∷ []) (tile ∷ [])
+
+-- the answer where the lent slices fit one bay with two rows
+abbrev least : System → Constraints → Outcome
+least s c = answered (mfeAnswer s c 1 2 2)
+
+unfoldable pub layouts : List Case
+layouts =
+    case (laid (leastLayout (one (plus 1 1) (plus 0 1) (plus 0 1) []) free)) (laid (0 ∷ []))
+    ∷ case (least (one (plus 1 1) (plus 0 1) (plus 0 1) []) free) (answered (Energy (ofBits binary64 0)))
+    ∷ case (laid (leastLayout (one (minus 1 1) (plus 0 1) (plus 0 1) []) free)) (laid (1 ∷ []))
+    ∷ case (legal (isLegal (one (plus 0 1) (plus 1 1) (plus 0 1) []) free 0 1)) (legal true)
+    ∷ case (laid (leastLayout (one (plus 0 1) (plus 1 1) (plus 0 1) []) free)) (laid (0 ∷ []))
+    ∷ case (least (one (plus 1 1) (plus 0 1) (inf true) (0 ∷ 0 ∷ 1 ∷ [])) free) (answered (Energy (inf false)))
+    ∷ case (laid (leastLayout (one (minus 1 1) (plus 0 1) (plus 0 1) []) (listed []))) (laid (1 ∷ []))
+    ∷ case (laid (leastLayout (one (minus 1 1) (plus 0 1) (plus 0 1) []) (listed (0 ∷ [])))) (laid (0 ∷ []))
+    ∷ case (least (one (minus 1 1) (plus 0 1) (plus 0 1) []) (listed (99 ∷ []))) (answered (Refused (refusal 7 (0 ∷ []))))
+    ∷ case (needs (runNeed (two 2 2) free)) (needs 14)
+    ∷ case (needs (runNeed (two 2 3) free)) (needs 22)
+    ∷ case (needs (runNeed (two 1 3) free)) (needs 6)
+    ∷ []
+
+-- all of them
+abbrev pub starred : List Case
+starred = map (λ (c : Sequences·Case). case (sequence (c .given)) (sequence (c .printed))) Sequences·starred ++ layouts

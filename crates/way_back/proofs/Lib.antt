@@ -1,0 +1,4 @@
+pub mod Stepping
+pub mod Position
+pub mod Backing
+pub mod Tracking
