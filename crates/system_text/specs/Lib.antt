@@ -1,2 +1,2 @@
+pub mod Reads
 pub mod Within
-pub mod Fields

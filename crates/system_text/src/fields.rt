@@ -1,17 +1,13 @@
-// Lists in fields, read to the front of a lent slice: a missing one is unreadable.
+// What the values of fields come to where a reader goes on after an unreadable one: flags and counts beside the values.
 ghost use mathlib.Core.Path.{_≡_};
 ghost use Prim.Native.Nat.{_^_, _≤_};
 ghost use lib.ListN.{length};
 ghost use Rattle.case_text.specs.Digits.{worth, isNumber, isFloat, floatIn};
-ghost use Rattle.system_text.specs.Fields.{numberOr, listRead, countIn, tableAfter};
+ghost use Rattle.case_lists.specs.Lists.{items};
+ghost use Rattle.case_fields.specs.Values.{fieldCount, fieldFront};
+ghost use Rattle.system_text.specs.Reads.{listRead};
 use case_lists::Count;
-use case_lists::floats_into;
-use case_lists::numbers_into;
-use case_lists::small_numbers_into;
 use case_text::Number;
-use case_text::field;
-use case_text::has_field;
-use case_text::number;
 
 // Whether a list could be read, and how many items it has, 0 where it could not.
 pub struct ListRead {
@@ -45,47 +41,28 @@ fn list_read(count: Count) -> ListRead
 // The numbers of a list, each below 2^32.
 pub fn small_numbers_field(line: &[u8], key: &[u8], room: &mut [u32]) -> ListRead
     ensures within { λ r. ⌜ r .count ≤ length (now (room .entry)) ⌝ }
-    ensures answer { λ r. ⌜ r ≡ listRead (countIn (isNumber (2 ^ 32)) (now (key .entry)) (now (line .entry)) (length (now (room .entry)))) ⌝ }
-    ensures table { λ _. ⌜ now (room .exit) ≡ tableAfter (isNumber (2 ^ 32)) (worth 10 0) (now (key .entry)) (now (line .entry)) (now (room .entry)) ⌝ }
+    ensures answer { λ r. ⌜ r ≡ listRead (fieldCount (isNumber (2 ^ 32)) items (now (key .entry)) (now (line .entry)) (length (now (room .entry)))) ⌝ }
+    ensures table { λ _. ⌜ now (room .exit) ≡ fieldFront (isNumber (2 ^ 32)) (worth 10 0) items (now (key .entry)) (now (line .entry)) (now (room .entry)) ⌝ }
 {
-    if has_field(line, key) {
-        return list_read(small_numbers_into(field(line, key), room));
-    }
-    list_read(Count::Unreadable)
+    list_read(case_fields::small_numbers_field(line, key, room))
 }
 
 // The numbers of a list.
 pub fn numbers_field(line: &[u8], key: &[u8], room: &mut [usize]) -> ListRead
     ensures within { λ r. ⌜ r .count ≤ length (now (room .entry)) ⌝ }
-    ensures answer { λ r. ⌜ r ≡ listRead (countIn (isNumber (2 ^ 64)) (now (key .entry)) (now (line .entry)) (length (now (room .entry)))) ⌝ }
-    ensures table { λ _. ⌜ now (room .exit) ≡ tableAfter (isNumber (2 ^ 64)) (worth 10 0) (now (key .entry)) (now (line .entry)) (now (room .entry)) ⌝ }
+    ensures answer { λ r. ⌜ r ≡ listRead (fieldCount (isNumber (2 ^ 64)) items (now (key .entry)) (now (line .entry)) (length (now (room .entry)))) ⌝ }
+    ensures table { λ _. ⌜ now (room .exit) ≡ fieldFront (isNumber (2 ^ 64)) (worth 10 0) items (now (key .entry)) (now (line .entry)) (now (room .entry)) ⌝ }
 {
-    if has_field(line, key) {
-        return list_read(numbers_into(field(line, key), room));
-    }
-    list_read(Count::Unreadable)
+    list_read(case_fields::numbers_field(line, key, room))
 }
 
 // The floats of a list.
 pub(crate) fn floats_field(line: &[u8], key: &[u8], room: &mut [f64]) -> ListRead
     ensures within { λ r. ⌜ r .count ≤ length (now (room .entry)) ⌝ }
-    ensures answer { λ r. ⌜ r ≡ listRead (countIn isFloat (now (key .entry)) (now (line .entry)) (length (now (room .entry)))) ⌝ }
-    ensures table { λ _. ⌜ now (room .exit) ≡ tableAfter isFloat floatIn (now (key .entry)) (now (line .entry)) (now (room .entry)) ⌝ }
+    ensures answer { λ r. ⌜ r ≡ listRead (fieldCount isFloat items (now (key .entry)) (now (line .entry)) (length (now (room .entry)))) ⌝ }
+    ensures table { λ _. ⌜ now (room .exit) ≡ fieldFront isFloat floatIn items (now (key .entry)) (now (line .entry)) (now (room .entry)) ⌝ }
 {
-    if has_field(line, key) {
-        return list_read(floats_into(field(line, key), room));
-    }
-    list_read(Count::Unreadable)
-}
-
-// The number of a field, or `otherwise` where the field is missing.
-pub fn number_or(line: &[u8], key: &[u8], otherwise: usize) -> Number
-    ensures { λ r. ⌜ r ≡ numberOr (now (key .entry)) (now (line .entry)) otherwise ⌝ }
-{
-    if has_field(line, key) {
-        return number(field(line, key));
-    }
-    Number::Of(otherwise as u64)
+    list_read(case_fields::floats_field(line, key, room))
 }
 
 // Whether a number could be read.

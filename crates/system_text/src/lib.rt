@@ -2,13 +2,16 @@
 ghost use lib.ListN.{length};
 ghost use Rattle.system_text.specs.Within.{Within};
 
+mod constraints;
 mod fields;
 mod lists;
 mod matrices;
 mod sizes;
 
+pub use constraints::ConstraintsRead;
+pub use constraints::bays;
+pub use constraints::read_constraints;
 pub use fields::ListRead;
-pub use fields::number_or;
 pub use fields::numbers_field;
 pub use fields::small_numbers_field;
 use lists::lists_into;

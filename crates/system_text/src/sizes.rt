@@ -1,11 +1,10 @@
 // The numbers of a system, and its temperature.
 use crate::fields::is_number;
 use crate::fields::number_in;
+use case_fields::float_field;
+use case_fields::number_field;
 use case_text::FloatValue;
 use case_text::Number;
-use case_text::field;
-use case_text::float;
-use case_text::number;
 use sdc2d::Sizes;
 
 // Whether all sizes could be read, and the sizes.
@@ -36,11 +35,11 @@ fn float_in(value: FloatValue) -> f64 {
 }
 
 pub(crate) fn read_sizes(line: &[u8]) -> SizesRead {
-    let rows = number(field(line, b"rows"));
-    let cols = number(field(line, b"cols"));
-    let strands = number(field(line, b"strands"));
-    let glues = number(field(line, b"glues"));
-    let kelvin = float(field(line, b"kelvin"));
+    let rows = number_field(line, b"rows");
+    let cols = number_field(line, b"cols");
+    let strands = number_field(line, b"strands");
+    let glues = number_field(line, b"glues");
+    let kelvin = float_field(line, b"kelvin");
     SizesRead {
         readable: all_numbers(rows, cols, strands, glues) && is_float(kelvin),
         sizes: Sizes {

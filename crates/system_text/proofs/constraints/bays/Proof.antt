@@ -1,9 +1,9 @@
--- `answers_systems::sets_of::bays` fits: no side is past 33. Assumes nothing.
+-- `system_text::constraints::bays` fits: no side is past 33. Assumes nothing.
 use native.Mathlib.Nat.{mul-le-mul}
 use native.Mathlib.Omega.{arith}
 use borrow.Author.Needs.{needs}
-use Rattle.answers_systems.proofs.sets_of.bays.Statement.{statement}
-use Rattle.answers_systems.proofs.sets_of.bays.Tie as tie
+use Rattle.system_text.proofs.constraints.bays.Statement.{statement}
+use Rattle.system_text.proofs.constraints.bays.Tie as tie
 
 at-most-requires : tie.Need-at-most-requires
 at-most-requires c κs = search needs
@@ -15,7 +15,7 @@ mul-result : tie.Need-mul-result
 mul-result c = record { fits = omega (arith, mul-le-mul (c .before .at-most .ensures) (c .at-most2 .ensures)) }
 
 returns : tie.Need-returns
-returns c = search needs
+returns c = mul-le-mul (c .before .at-most .ensures) (c .at-most2 .ensures)
 
 pub bays-spec : {M : Type 1} → statement M
 bays-spec = tie.close (tie.spec at-most-requires at-most-requires-2 mul-result returns)
