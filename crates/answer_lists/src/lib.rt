@@ -7,5 +7,6 @@ mod lists;
 pub use coded::put_coded;
 pub use lists::put_long_numbers;
 pub use lists::put_next_float;
+pub use lists::put_next_number;
 pub use lists::put_numbers;
 pub use lists::put_small_numbers;

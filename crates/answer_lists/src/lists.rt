@@ -8,7 +8,7 @@ use answer_lines::put_number;
 use answer_lines::put_text;
 
 // A number as the item at place i of a list.
-fn put_next_number(out: &mut [u8], at: usize, i: usize, n: u64) -> usize
+pub fn put_next_number(out: &mut [u8], at: usize, i: usize, n: u64) -> usize
     ensures { λ r. ⌜ Put (now (out .entry)) at (item i (numberText n)) r (now (out .exit)) ⌝ }
 {
     if i == 0 {

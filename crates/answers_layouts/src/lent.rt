@@ -22,11 +22,15 @@ pub(crate) fn all_bytes(table: &[u8], from: usize, value: u8) -> bool {
     true
 }
 
-// Floats by their bits: minus zero is not zero here.
+// Whether two floats are the same; of zeros the signs are told apart, by their inverses.
+fn same_float(x: f64, y: f64) -> bool {
+    x == y && 1.0 / x == 1.0 / y
+}
+
 pub(crate) fn all_floats(table: &[f64], from: usize, value: f64) -> bool {
     let mut i = from;
     while i < table.len() {
-        if f64::to_bits(table[i]) != f64::to_bits(value) {
+        if !same_float(table[i], value) {
             return false;
         }
         i += 1;

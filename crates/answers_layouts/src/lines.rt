@@ -24,11 +24,15 @@ fn put_energies(out: &mut [u8], at: usize, energies: &[f64]) -> usize {
     next
 }
 
+fn wide(note: u8) -> u64 {
+    note as u64
+}
+
 fn put_leaving(out: &mut [u8], at: usize, leaving: &[u8]) -> usize {
     let mut next = put_text(out, at, b" leaving=");
     let mut row = 0;
     while row < leaving.len() {
-        next = put_next_number(out, next, row, leaving[row] as u64);
+        next = put_next_number(out, next, row, wide(leaving[row]));
         row += 1;
     }
     next
