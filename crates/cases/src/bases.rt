@@ -18,12 +18,24 @@ fn offsets_into(offsets: &mut [usize; 129]) {
     }
 }
 
+// Registers names for 26 strands, strand 0 among them, and three bays.
+fn register_these(
+    text: &[u8; 128],
+    offsets: &[usize; 129],
+    present: &[u8; 128],
+    glues: &mut [u32],
+    scaffold: &mut [u32],
+    bases: &mut [usize],
+) -> CountAnswer {
+    register(1, 3, 26, text, offsets, present, glues, scaffold, bases)
+}
+
 // Registers the names with the last one present or absent.
 fn registered(
     last: u8,
-    glues: &mut [u32; 130],
-    scaffold: &mut [u32; 3],
-    bases: &mut [usize; 254],
+    glues: &mut [u32],
+    scaffold: &mut [u32],
+    bases: &mut [usize],
 ) -> CountAnswer {
     let mut text = [0u8; 128];
     names_into(&mut text);
@@ -31,7 +43,7 @@ fn registered(
     offsets_into(&mut offsets);
     let mut present = [1u8; 128];
     present[127] = last;
-    register(1, 3, 26, &text, &offsets, &present, glues, scaffold, bases)
+    register_these(&text, &offsets, &present, glues, scaffold, bases)
 }
 
 fn is_count(answer: CountAnswer, count: usize) -> bool {
@@ -49,22 +61,17 @@ fn is_refusal(answer: CountAnswer, number: u32, first: usize) -> bool {
 }
 
 // Base i has glue 2i + 1, five of them a strand from strand 1 on; strand 0 has none.
-fn glue_of_place(i: usize) -> usize {
-    if i < 5 || 130 <= i {
-        return 0;
-    }
-    (i - 5) * 2 + 1
-}
-
 fn glues_in_order(glues: &[u32; 130]) -> bool {
-    let mut i = 0;
+    let mut glue = 1;
+    let mut i = 5;
     while i < 130 {
-        if glues[i] as usize != glue_of_place(i) {
+        if glues[i] != glue {
             return false;
         }
+        glue += 2;
         i += 1;
     }
-    true
+    glues[0] == 0 && glues[1] == 0 && glues[2] == 0 && glues[3] == 0 && glues[4] == 0
 }
 
 // Base i is the one byte at offset i.

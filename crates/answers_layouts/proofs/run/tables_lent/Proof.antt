@@ -3,7 +3,6 @@ use mathlib.Core.Path.{sym}
 use lib.Seq.{length-take-le}
 use native.Mathlib.Omega.{arith}
 use borrow.Author.Needs.{needs}
-use borrow.Author.Needs.{needs}
 use Rattle.answers_layouts.proofs.run.tables_lent.Statement.{statement}
 use Rattle.answers_layouts.proofs.run.tables_lent.Tie as tie
 
