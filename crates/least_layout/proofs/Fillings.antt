@@ -23,7 +23,7 @@ use Rattle.ledger_rows.specs.Scan.{Scan, In, Legal, scanSum}
 use Rattle.ledger_rows.specs.Blocks.{tab}
 use Rattle.ledger_rows.proofs.Lists.{tab-at, length-tab}
 use Rattle.row_choice.specs.Row.{withBond}
-use Rattle.scan_order.specs.Order.{byRows, window}
+use Rattle.scan_tables.specs.Order.{byRows, window}
 use Rattle.least_layout.specs.Run.{systemScan, rowByRow}
 use Rattle.least_layout.specs.Layouts.{LegalLayout, scannedStrand, bayNumber, scanSumTo}
 use Rattle.least_layout.proofs.Meaning.{legal-below, in-legal, legal-in, added-is}

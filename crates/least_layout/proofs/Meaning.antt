@@ -26,7 +26,7 @@ use Rattle.ledger_rows.specs.Scan.{Scan, In, Rising}
 use Rattle.ledger_rows.specs.Blocks.{tab}
 use Rattle.ledger_rows.proofs.Lists.{tab-at}
 use Rattle.row_choice.specs.Row.{strandsOf, bondAt, withBond}
-use Rattle.scan_order.specs.Order.{byRows, window, scanSets}
+use Rattle.scan_tables.specs.Order.{byRows, window, scanSets}
 use Rattle.run_tables.specs.Tables.{pairEnergy, bondTable, siteEnergy, siteTable}
 use Rattle.least_layout.specs.Run.{systemScan}
 use Rattle.least_layout.specs.Layouts.{bayNumber}

@@ -21,7 +21,7 @@ use Rattle.legal.specs.Sets.{bays, setsOf, emptyVerdict}
 use Rattle.legal.proofs.Scanned.{bay-inside}
 use Rattle.legal.proofs.Seven.{seven, set-of-bay}
 use Rattle.ledger_rows.specs.Scan.{Filled}
-use Rattle.scan_order.specs.Order.{window}
+use Rattle.scan_tables.specs.Order.{window}
 use Rattle.least_layout.specs.Run.{systemScan}
 use Rattle.least_layout.specs.Layouts.{LeastLayoutTheorem}
 use Rattle.least_layout.proofs.Meaning.{strands-are}

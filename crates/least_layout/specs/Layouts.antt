@@ -15,7 +15,7 @@ use Rattle.legal.specs.Scan.{bayAt}
 use Rattle.legal.specs.Sets.{bays}
 use Rattle.ledger_rows.specs.LeastEnergyTheorem.{LeastEnergyTheorem}
 use Rattle.row_choice.specs.Row.{withBond}
-use Rattle.scan_order.specs.Order.{byRows, window}
+use Rattle.scan_tables.specs.Order.{byRows, window}
 use Rattle.least_layout.specs.Run.{systemScan, leastSum, leastLayout}
 
 -- a strand for each bay, row by row, each legal where it lies

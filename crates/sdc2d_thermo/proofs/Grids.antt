@@ -23,7 +23,7 @@ use Rattle.legal.proofs.Fronts.{length-sets}
 use Rattle.legal.proofs.Scanned.{bay-inside}
 use Rattle.ledger_rows.specs.Scan.{Filled}
 use Rattle.ledger_fill.specs.Handed.{setScan}
-use Rattle.scan_order.specs.Order.{window, scanSets}
+use Rattle.scan_tables.specs.Order.{window, scanSets}
 use Rattle.run_tables.specs.Tables.{Stocked}
 use Rattle.least_layout.specs.Run.{systemScan}
 use Rattle.system_run.specs.Steps.{OnBoard}

@@ -16,7 +16,7 @@ use Rattle.ledger_rows.specs.Trace.{answer, answerRow, layout}
 use Rattle.ledger_fill.specs.Handed.{runScan}
 use Rattle.way_back.specs.Tracing.{inOrder}
 use Rattle.ledger.specs.Run.{ifAnswered, energiesAfter, notesAfter, orderAfter}
-use Rattle.scan_order.specs.Order.{window}
+use Rattle.scan_tables.specs.Order.{window}
 use Rattle.least_layout.specs.Run.{rowByRow}
 use Rattle.system_run.specs.Steps.{OnBoard, Ran}
 use Rattle.system_run.proofs.Ordered.{length-trace, laid-out}

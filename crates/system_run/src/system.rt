@@ -4,7 +4,7 @@ ghost use mathlib.Core.Bool.{not};
 ghost use Prim.Native.Nat.{_*_, _≤_};
 ghost use lib.ListN.{length, take};
 ghost use Rattle.bonds.specs.Readable.{Readable};
-ghost use Rattle.scan_order.specs.Order.{byRows, window};
+ghost use Rattle.scan_tables.specs.Order.{byRows, window};
 ghost use Rattle.run_tables.specs.Tables.{bondTable, siteTable, Stocked};
 ghost use Rattle.ledger_rows.specs.Scan.{Filled};
 ghost use Rattle.ledger_rows.specs.Blocks.{need};
@@ -13,7 +13,7 @@ ghost use Rattle.system_run.specs.Steps.{OnBoard, Ran, Roomy};
 use crate::tables::run_over;
 use run_tables::fill_bonds;
 use run_tables::fill_sites;
-use scan_order::by_rows;
+use scan_tables::by_rows;
 use sdc2d::Sizes;
 
 // Lends the fronts of the tables that bays fill.

@@ -1,12 +1,12 @@
 // The run over tables: the ledger, then the layout row by row.
 ghost use mathlib.Core.Path.{_≡_};
 ghost use lib.ListN.{length};
-ghost use Rattle.scan_order.specs.Order.{window};
+ghost use Rattle.scan_tables.specs.Order.{window};
 ghost use Rattle.ledger_fill.specs.Handed.{runScan, Fillable};
 ghost use Rattle.system_run.specs.Steps.{OnBoard, Ran};
 use beta_energies::no_energy;
-use scan_order::lay_out;
-use scan_order::window;
+use scan_tables::lay_out;
+use scan_tables::window;
 
 // Fills the ledger from the tables of a run and lays out what its notes lead back to. The strands in scan order stand in `order` for a while.
 pub(crate) fn run_over(

@@ -9,7 +9,7 @@ use borrow.Author.Needs.{needs}
 use borrow.Author.Needs.{scaled-fits}
 use Rattle.ledger_rows.specs.Blocks.{tab}
 use Rattle.run_tables.specs.Tables.{pairEnergy}
-use Rattle.scan_order.proofs.Written.{one-more, whole, none-yet}
+use Rattle.scan_tables.proofs.Written.{one-more, whole, none-yet}
 use Rattle.run_tables.proofs.bonds_of.fill_bonds.Statement.{statement}
 use Rattle.run_tables.proofs.bonds_of.fill_bonds.Tie as tie
 

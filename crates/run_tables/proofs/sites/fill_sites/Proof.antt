@@ -12,7 +12,7 @@ use Rattle.legal.specs.Scan.{bayAt}
 use Rattle.legal.proofs.Scanned.{bay-inside}
 use Rattle.ledger_rows.specs.Blocks.{tab}
 use Rattle.run_tables.specs.Tables.{siteEnergy}
-use Rattle.scan_order.proofs.Written.{one-more, none-yet}
+use Rattle.scan_tables.proofs.Written.{one-more, none-yet}
 use Rattle.run_tables.proofs.sites.fill_sites.Statement.{statement}
 use Rattle.run_tables.proofs.sites.fill_sites.Tie as tie
 

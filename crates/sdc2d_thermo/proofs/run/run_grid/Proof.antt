@@ -11,7 +11,7 @@ use Rattle.sdc2d.specs.System.{System, system}
 use Rattle.legal_at.specs.Lists.{Constraints, constraints}
 use Rattle.legal.specs.Sets.{setsOf, emptyVerdict}
 use Rattle.ledger_rows.specs.Blocks.{need}
-use Rattle.scan_order.specs.Order.{scanSets}
+use Rattle.scan_tables.specs.Order.{scanSets}
 use Rattle.run_room.specs.Room.{roomVerdict}
 use Rattle.least_layout.specs.Run.{tableScan, systemScan, runNeed}
 use Rattle.sdc2d_thermo.specs.Steps.{Finished}

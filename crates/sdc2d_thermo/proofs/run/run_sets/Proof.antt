@@ -10,7 +10,7 @@ use Rattle.ledger_rows.specs.Scan.{Filled}
 use Rattle.ledger_rows.specs.Blocks.{need}
 use Rattle.ledger_rows.proofs.Lists.{length-tab}
 use Rattle.ledger_fill.specs.Handed.{setScan}
-use Rattle.scan_order.specs.Order.{window}
+use Rattle.scan_tables.specs.Order.{window}
 use Rattle.run_room.specs.Room.{roomVerdict}
 use Rattle.least_layout.specs.Run.{tableScan}
 use Rattle.sdc2d_thermo.specs.Steps.{Finished}

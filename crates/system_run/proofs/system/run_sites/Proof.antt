@@ -11,7 +11,7 @@ use borrow.Author.Needs.{needs}
 use Rattle.legal.specs.Scan.{bayAt}
 use Rattle.ledger_rows.proofs.Lists.{length-tab}
 use Rattle.ledger_fill.specs.Handed.{runScan}
-use Rattle.scan_order.specs.Order.{window}
+use Rattle.scan_tables.specs.Order.{window}
 use Rattle.run_tables.specs.Tables.{siteEnergy}
 use Rattle.system_run.specs.Steps.{Ran}
 use Rattle.system_run.proofs.Boards.{few-bays, front-fits}

@@ -1,8 +1,8 @@
--- `scan_order::window` meets its contract. Assumes nothing.
+-- `scan_tables::window` meets its contract. Assumes nothing.
 use mathlib.Core.Path.{_≡_, sym, _∙_}
 use borrow.Author.Needs.{needs}
-use Rattle.scan_order.proofs.window.Statement.{statement}
-use Rattle.scan_order.proofs.window.Tie as tie
+use Rattle.scan_tables.proofs.window.Statement.{statement}
+use Rattle.scan_tables.proofs.window.Tie as tie
 
 by-rows-requires : tie.Need-by-rows-requires
 by-rows-requires c κs = search needs

@@ -1,4 +1,4 @@
--- `scan_order::fill_scan` meets its contract. The invariant: the first k sets of the scan are written. Assumes nothing.
+-- `scan_tables::fill_scan` meets its contract. The invariant: the first k sets of the scan are written. Assumes nothing.
 use Prim.Native.Nat.{ℕ, _+_, _*_, _-_, _≤_, _<_}
 use mathlib.Core.Path.{_≡_, refl, sym, _∙_, ap}
 use native.Mathlib.Nat.{mul-le-mul}
@@ -10,9 +10,9 @@ use borrow.Author.Needs.{scaled-fits}
 use Rattle.legal.specs.Scan.{bayAt}
 use Rattle.legal.proofs.Scanned.{bay-inside}
 use Rattle.ledger_rows.specs.Blocks.{tab}
-use Rattle.scan_order.proofs.Written.{one-more, none-yet}
-use Rattle.scan_order.proofs.fill_scan.Statement.{statement}
-use Rattle.scan_order.proofs.fill_scan.Tie as tie
+use Rattle.scan_tables.proofs.Written.{one-more, none-yet}
+use Rattle.scan_tables.proofs.fill_scan.Statement.{statement}
+use Rattle.scan_tables.proofs.fill_scan.Tie as tie
 
 abbrev Inv-loop : tie.InvT-loop
 Inv-loop rows cols sets scan₀ bays k₀ scan k =

@@ -4,7 +4,7 @@ ghost use Prim.Native.Nat.{_*_, _≤_};
 ghost use lib.ListN.{length, getD, take};
 ghost use Rattle.legal.specs.Scan.{numberAt};
 ghost use Rattle.ledger_rows.specs.Blocks.{tab};
-ghost use Rattle.scan_order.specs.Order.{scanSets, byRows, window};
+ghost use Rattle.scan_tables.specs.Order.{scanSets, byRows, window};
 use legal::bay_at;
 use legal::number_at;
 

@@ -1,4 +1,4 @@
--- `scan_order::lay_out` meets its contract. The invariant: the bays before are laid out. Assumes nothing.
+-- `scan_tables::lay_out` meets its contract. The invariant: the bays before are laid out. Assumes nothing.
 use Prim.Native.Nat.{ℕ, _+_, _*_, _-_, _≤_, _<_}
 use mathlib.Core.Path.{_≡_, refl, sym, _∙_, ap}
 use native.Mathlib.Omega.{arith}
@@ -8,9 +8,9 @@ use borrow.Author.Needs.{scaled-fits}
 use Rattle.legal.specs.Scan.{numberAt}
 use Rattle.legal.proofs.Scanned.{number-inside}
 use Rattle.ledger_rows.specs.Blocks.{tab}
-use Rattle.scan_order.proofs.Written.{one-more, whole, none-yet}
-use Rattle.scan_order.proofs.lay_out.Statement.{statement}
-use Rattle.scan_order.proofs.lay_out.Tie as tie
+use Rattle.scan_tables.proofs.Written.{one-more, whole, none-yet}
+use Rattle.scan_tables.proofs.lay_out.Statement.{statement}
+use Rattle.scan_tables.proofs.lay_out.Tie as tie
 
 abbrev Inv-loop : tie.InvT-loop
 Inv-loop rows cols order layout₀ bay₀ layout bay =
