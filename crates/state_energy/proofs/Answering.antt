@@ -14,7 +14,7 @@ use Rattle.units.proofs.Verdicts.{Tabled, tabled-if, tabled-then}
 use Rattle.sdc2d.specs.System.{System, systemVerdict}
 use Rattle.sdc2d.proofs.Tabled.{system-tabled}
 use Rattle.beta_energies.specs.Energies.{noEnergy}
-use Rattle.state_energy.specs.Listing.{listing, listingSum}
+use Rattle.listing_sum.specs.Listing.{listing, listingSum}
 use Rattle.state_energy.specs.StateG.{shapeVerdict, strandsVerdict, energyVerdict, layoutVerdict, stateVerdict, inKcal, stateG}
 use Rattle.state_energy.proofs.Passed.{laid-out}
 

@@ -1,4 +1,3 @@
-pub mod Sums
 pub mod Passed
 pub mod Answering
 pub mod Unique

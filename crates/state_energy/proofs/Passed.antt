@@ -11,7 +11,7 @@ use Rattle.units.proofs.Verdicts.{no-fault, first-passes, rest-passes}
 use Rattle.sdc2d.specs.System.{System, systemVerdict}
 use Rattle.sdc2d.proofs.Fine.{Fine, fine, all-below}
 use Rattle.bonds.specs.Readable.{Readable}
-use Rattle.state_energy.specs.Listed.{LaidOut, Stocked}
+use Rattle.listing_sum.specs.Listed.{LaidOut, Stocked}
 use Rattle.state_energy.specs.StateG.{shapeVerdict, strandsVerdict, layoutVerdict}
 
 pub readable : (s : System) → Fine s → Readable (s .sizes .strands) (s .sizes .glues) (s .strandGlues) (s .deltaG) (s .entropy)

@@ -14,7 +14,7 @@ use Rattle.units.specs.Places.{firstFailing}
 use Rattle.units.specs.Refusals.{refusal}
 use Rattle.sdc2d.specs.System.{System, system, isLog, firstBadSeed}
 use Rattle.beta_energies.specs.Energies.{bayEnergy, edgeEnergy, noEnergy}
-use Rattle.state_energy.specs.Listing.{withWest, withNorth, listing}
+use Rattle.listing_sum.specs.Listing.{withWest, withNorth, listing}
 use Rattle.state_energy.specs.StateG.{stateG}
 
 -- One row of bays with glue 1; strand 1 has bottom glue 1, east glue 1 and west glue 0. Cell (1, 1) is its scaffold bond, cell (1, 0) the bond of two side by side.

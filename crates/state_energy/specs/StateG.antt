@@ -13,7 +13,7 @@ use Rattle.units.specs.Refusals.{Verdict, refuseIf, _▷_}
 use Rattle.sdc2d.specs.declared.sizes.Sizes.{Sizes}
 use Rattle.sdc2d.specs.System.{System, systemVerdict}
 use Rattle.beta_energies.specs.Energies.{noEnergy}
-use Rattle.state_energy.specs.Listing.{listingSum}
+use Rattle.listing_sum.specs.Listing.{listingSum}
 
 -- 5: the layout has the wrong length
 abbrev pub shapeVerdict : Sizes → (layout : List ℕ) → Verdict

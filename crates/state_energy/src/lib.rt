@@ -1,5 +1,4 @@
 // The energy of a layout.
-mod listing;
 mod state;
 
 pub use state::answered;

@@ -7,7 +7,7 @@ use Rattle.units.proofs.Verdicts.{refused-first, passed}
 use Rattle.sdc2d.specs.System.{System, system}
 use Rattle.state_energy.proofs.Answering.{state-tabled, answered-so}
 use Rattle.state_energy.proofs.Passed.{readable, stocked, system-fine, laid-out}
-use Rattle.state_energy.specs.Listing.{listingSum}
+use Rattle.listing_sum.specs.Listing.{listingSum}
 use Rattle.state_energy.specs.StateG.{layoutVerdict, energyVerdict, stateVerdict, inKcal}
 use Rattle.state_energy.proofs.state.state_g.Statement.{statement}
 use Rattle.state_energy.proofs.state.state_g.Tie as tie

@@ -1,12 +1,12 @@
--- `state_energy::listing::with_north` meets its contract: past the first row there is a bay to the north. Assumes nothing.
+-- `listing_sum::with_north` meets its contract: past the first row there is a bay to the north. Assumes nothing.
 use mathlib.Core.Path.{_∙_}
 use native.Mathlib.Omega.{arith}
 use denote.Ref.{now}
 use borrow.Author.Needs.{needs}
 use borrow.Author.Tests.{lt-ltb, le-ltb}
-use Rattle.state_energy.proofs.Sums.{north-absent, north-added}
-use Rattle.state_energy.proofs.listing.with_north.Statement.{statement}
-use Rattle.state_energy.proofs.listing.with_north.Tie as tie
+use Rattle.listing_sum.proofs.Sums.{north-absent, north-added}
+use Rattle.listing_sum.proofs.with_north.Statement.{statement}
+use Rattle.listing_sum.proofs.with_north.Tie as tie
 
 returns : tie.Need-returns
 returns c =

@@ -1,8 +1,8 @@
--- `state_energy::listing::strand_at` meets its contract. Assumes nothing.
+-- `listing_sum::strand_at` meets its contract. Assumes nothing.
 use native.Mathlib.Omega.{arith}
 use borrow.Author.Needs.{needs}
-use Rattle.state_energy.proofs.listing.strand_at.Statement.{statement}
-use Rattle.state_energy.proofs.listing.strand_at.Tie as tie
+use Rattle.listing_sum.proofs.strand_at.Statement.{statement}
+use Rattle.listing_sum.proofs.strand_at.Tie as tie
 
 mul-result : tie.Need-mul-result
 mul-result c = search needs

@@ -1,4 +1,4 @@
--- `state_energy::listing::state_beta_energy` meets its contract. The invariant: the sum is the listing sum over the bays passed. Assumes nothing.
+-- `listing_sum::state_beta_energy` meets its contract. The invariant: the sum is the listing sum over the bays passed. Assumes nothing.
 use Prim.Native.Nat.{_-_, _≤_}
 use mathlib.Core.Path.{_≡_, _∙_, ap}
 use native.Mathlib.Omega.{arith}
@@ -7,10 +7,10 @@ use lib.ListN.{length}
 use denote.Ref.{now}
 use borrow.Author.Needs.{needs}
 use Rattle.units.specs.Decimals.{decimal}
-use Rattle.state_energy.proofs.Sums.{from-nothing, one-bay-more}
-use Rattle.state_energy.specs.Listing.{listing}
-use Rattle.state_energy.proofs.listing.state_beta_energy.Statement.{statement}
-use Rattle.state_energy.proofs.listing.state_beta_energy.Tie as tie
+use Rattle.listing_sum.proofs.Sums.{from-nothing, one-bay-more}
+use Rattle.listing_sum.specs.Listing.{listing}
+use Rattle.listing_sum.proofs.state_beta_energy.Statement.{statement}
+use Rattle.listing_sum.proofs.state_beta_energy.Tie as tie
 
 abbrev Inv-loop : tie.InvT-loop
 Inv-loop z strand-glues scaffold delta-g entropy logs layout sum₀ bay₀ sum bay =

@@ -10,7 +10,7 @@ use lib.Dec.{eqb, ltb}
 use lib.Ieee.{Float, binary64, add}
 use Rattle.sdc2d.specs.declared.sizes.Sizes.{Sizes}
 use Rattle.beta_energies.specs.Energies.{nothing, bayEnergy, edgeEnergy}
-use Rattle.state_energy.specs.Listing.{strandAt, withWest, withNorth, listing}
+use Rattle.listing_sum.specs.Listing.{strandAt, withWest, withNorth, listing}
 
 -- a bay past the first column is not bay 0
 pub past-first : (bay cols : ℕ) → (bay % cols ≡ 0 → ⊥) → 1 ≤ bay

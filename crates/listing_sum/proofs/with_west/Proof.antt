@@ -1,12 +1,12 @@
--- `state_energy::listing::with_west` meets its contract: past the first column there is a bay to the west. Assumes nothing.
+-- `listing_sum::with_west` meets its contract: past the first column there is a bay to the west. Assumes nothing.
 use mathlib.Core.Path.{_∙_}
 use native.Mathlib.Omega.{arith}
 use denote.Ref.{now}
 use borrow.Author.Needs.{needs}
 use borrow.Author.Tests.{eq-eqb, ne-eqb}
-use Rattle.state_energy.proofs.Sums.{past-first, west-absent, west-added}
-use Rattle.state_energy.proofs.listing.with_west.Statement.{statement}
-use Rattle.state_energy.proofs.listing.with_west.Tie as tie
+use Rattle.listing_sum.proofs.Sums.{past-first, west-absent, west-added}
+use Rattle.listing_sum.proofs.with_west.Statement.{statement}
+use Rattle.listing_sum.proofs.with_west.Tie as tie
 
 rem-if1 : tie.Need-rem-if1
 rem-if1 c = search needs

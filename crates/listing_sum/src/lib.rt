@@ -3,8 +3,8 @@ ghost use mathlib.Core.Path.{_≡_};
 ghost use Prim.Native.Nat.{_<_};
 ghost use lib.ListN.{length};
 ghost use Rattle.bonds.specs.Readable.{Readable};
-ghost use Rattle.state_energy.specs.Listed.{LaidOut, Stocked};
-ghost use Rattle.state_energy.specs.Listing.{strandAt, withWest, withNorth, listing};
+ghost use Rattle.listing_sum.specs.Listed.{LaidOut, Stocked};
+ghost use Rattle.listing_sum.specs.Listing.{strandAt, withWest, withNorth, listing};
 use beta_energies::edge_beta_between;
 use beta_energies::site_beta_energy;
 use sdc2d::Sizes;
@@ -64,7 +64,7 @@ fn with_north(
 }
 
 // The listing sum.
-pub(crate) fn state_beta_energy(
+pub fn state_beta_energy(
     z: Sizes,
     strand_glues: &[u32],
     scaffold: &[u32],
