@@ -1,15 +1,24 @@
--- From the bonds that the code asks for to the energies of bays and of neighbours. Assumes nothing.
+-- From the bonds that the code asks for to the energies of bays and of neighbours, and what is no energy. Assumes nothing.
 use Prim.Native.Nat.{ℕ}
 use mathlib.Core.Path.{_≡_, refl, ap₂}
-use mathlib.Core.Bool.{Bool, true, false}
+use mathlib.Core.Bool.{Bool, true, false, not}
 use mathlib.Core.List.{List}
 use lib.Dec.{eqb}
-use lib.Ieee.{Float, nan, binary64, sub}
+use lib.Ieee.{Float, nan, inf, fin, binary64, sub, lt}
 use lib.ListN.{getD}
 use Rattle.units.specs.declared.StrandGlues.{StrandGlues}
 use Rattle.sdc2d.specs.declared.sizes.Sizes.{Sizes}
-use Rattle.bonds.specs.Bonds.{gluesOf, scaffoldGlue, bondWe, bondNs, bondWithScaffold}
-use Rattle.beta_energies.specs.Energies.{bayEnergy, emptyPair, pairBond, edgeEnergy}
+use Rattle.glue_tables.specs.Tables.{gluesOf, scaffoldGlue}
+use Rattle.bonds.specs.Bonds.{bondWe, bondNs, bondWithScaffold}
+use Rattle.beta_energies.specs.Energies.{bayEnergy, emptyPair, pairBond, edgeEnergy, noEnergy}
+
+-- no energy is what is not above minus infinity
+pub no-energy-is : (x : Float) → noEnergy x ≡ not (lt (inf true) x)
+unfolding noEnergy lt
+no-energy-is nan = refl
+no-energy-is (inf true) = refl
+no-energy-is (inf false) = refl
+no-energy-is (fin negative m e) = refl
 
 -- a bay with a strand: the bond of what was read
 pub bay-with-strand : (z : Sizes) (strandGlues scaffold : List ℕ) (deltaG entropy logs : List Float) (bay strand : ℕ) {glue : ℕ} {own : StrandGlues} {bond : Float}

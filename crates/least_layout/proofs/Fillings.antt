@@ -16,9 +16,9 @@ use Rattle.sdc2d.specs.System.{System}
 use Rattle.beta_energies.specs.Energies.{bayEnergy, edgeEnergy}
 use Rattle.legal_at.specs.Lists.{Constraints}
 use Rattle.legal_at.specs.Legal.{isLegal}
-use Rattle.legal.specs.Scan.{bayAt, numberAt}
+use Rattle.scan_order.specs.Scan.{bayAt, numberAt}
 use Rattle.legal.specs.Sets.{bays}
-use Rattle.legal.proofs.Scanned.{bay-inside, number-inside, scanned, numbered}
+use Rattle.scan_order.proofs.Scanned.{bay-inside, number-inside, scanned, numbered}
 use Rattle.ledger_rows.specs.Scan.{Scan, In, Legal, scanSum}
 use Rattle.ledger_rows.specs.Blocks.{tab}
 use Rattle.ledger_rows.proofs.Lists.{tab-at, length-tab}

@@ -18,9 +18,9 @@ use Rattle.sdc2d.specs.System.{System}
 use Rattle.beta_energies.specs.Energies.{nothing, bayEnergy, edgeEnergy}
 use Rattle.legal_at.specs.Lists.{Constraints}
 use Rattle.legal_at.specs.Legal.{permitted, isLegal}
-use Rattle.legal.specs.Scan.{bayAt}
+use Rattle.scan_order.specs.Scan.{bayAt}
 use Rattle.legal.specs.Sets.{bays, setsOf}
-use Rattle.legal.proofs.Scanned.{bay-inside}
+use Rattle.scan_order.proofs.Scanned.{bay-inside}
 use Rattle.legal.proofs.Seven.{set-of-bay}
 use Rattle.ledger_rows.specs.Scan.{Scan, In, Rising}
 use Rattle.ledger_rows.specs.Blocks.{tab}

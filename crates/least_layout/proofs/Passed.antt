@@ -16,9 +16,9 @@ use Rattle.sdc2d.specs.System.{System}
 use Rattle.sdc2d.proofs.Fine.{Fine}
 use Rattle.legal_at.specs.Lists.{Constraints}
 use Rattle.legal_at.specs.Legal.{isLegal}
-use Rattle.legal.specs.Scan.{bayAt}
+use Rattle.scan_order.specs.Scan.{bayAt}
 use Rattle.legal.specs.Sets.{bays, setsOf, emptyVerdict}
-use Rattle.legal.proofs.Scanned.{bay-inside}
+use Rattle.scan_order.proofs.Scanned.{bay-inside}
 use Rattle.legal.proofs.Seven.{seven, set-of-bay}
 use Rattle.ledger_rows.specs.Scan.{Filled}
 use Rattle.scan_tables.specs.Order.{window}

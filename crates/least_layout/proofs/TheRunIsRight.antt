@@ -1,16 +1,17 @@
 -- THE THEOREM of the run: the layout of least energy is legal, no legal layout has a smaller scan sum, and 10 is given exactly when some legal layout's
 -- scan sum is no energy. It rests on the theorem of the ledger. Assumes nothing.
 use Prim.Native.Nat.{ℕ, _*_, _≤_, _<_}
-use mathlib.Core.Path.{_≡_, refl, sym, _∙_, ap, subst}
+use mathlib.Core.Path.{_≡_, sym, _∙_, ap, subst}
 use mathlib.Core.Bool.{Bool, true, false, not}
 use mathlib.Core.List.{List}
 use mathlib.Core.Logic.{_↔_}
 use native.Mathlib.Omega.{arith}
-use lib.Ieee.{Float, nan, inf, fin, lt, le}
+use lib.Ieee.{Float, inf, lt, le}
 use borrow.Author.Tests.{not-true, not-false}
 use Rattle.floats.specs.Values.{Good, Bad}
 use Rattle.sdc2d.specs.System.{System}
 use Rattle.beta_energies.specs.Energies.{noEnergy}
+use Rattle.beta_energies.proofs.Laws.{no-energy-is}
 use Rattle.legal_at.specs.Lists.{Constraints}
 use Rattle.legal.specs.Sets.{bays}
 use Rattle.ledger_rows.specs.Scan.{Scan, Legal, Filled, scanSum}
@@ -23,13 +24,6 @@ use Rattle.least_layout.proofs.Meaning.{strands-rise}
 use Rattle.least_layout.proofs.Fillings.{Fit, fillingTo, filling-legal, filling-sum, layout-legal, filling-back}
 
 -- the test of an energy is the order's
-pub no-energy-is : (x : Float) → noEnergy x ≡ not (lt (inf true) x)
-unfolding noEnergy lt
-no-energy-is nan = refl
-no-energy-is (inf true) = refl
-no-energy-is (inf false) = refl
-no-energy-is (fin negative m e) = refl
-
 bad : (x : Float) → noEnergy x ≡ true → Bad x
 bad x e = not-true (lt (inf true) x) (sym (no-energy-is x) ∙ e)
 

@@ -11,7 +11,7 @@ use Rattle.sdc2d.specs.System.{System}
 use Rattle.beta_energies.specs.Energies.{bayEnergy, edgeEnergy, noEnergy}
 use Rattle.legal_at.specs.Lists.{Constraints}
 use Rattle.legal_at.specs.Legal.{isLegal}
-use Rattle.legal.specs.Scan.{bayAt}
+use Rattle.scan_order.specs.Scan.{bayAt}
 use Rattle.legal.specs.Sets.{bays}
 use Rattle.ledger_rows.specs.LeastEnergyTheorem.{LeastEnergyTheorem}
 use Rattle.row_choice.specs.Row.{withBond}

@@ -7,7 +7,7 @@ use lib.ListN.{getD}
 use Rattle.sdc2d.specs.declared.sizes.Sizes.{Sizes}
 use Rattle.sdc2d.specs.System.{System}
 use Rattle.legal_at.specs.Lists.{Constraints}
-use Rattle.legal.specs.Scan.{numberAt}
+use Rattle.scan_order.specs.Scan.{numberAt}
 use Rattle.legal.specs.Sets.{bays, setsOf}
 use Rattle.ledger_rows.specs.Scan.{Scan}
 use Rattle.ledger_rows.specs.Blocks.{tab, need}

@@ -1,11 +1,10 @@
 -- From the links of the chain to what the call answers and leaves in the lent slice. Assumes nothing.
-use Prim.Native.Nat.{ℕ, _*_, _≤_}
+use Prim.Native.Nat.{ℕ, _*_}
 use mathlib.Core.Path.{_≡_, refl, sym, _∙_, ap, subst}
 use mathlib.Core.Bool.{Bool, not, true, false, _&&_, true≢false}
 use mathlib.Core.List.{List, [], _∷_}
-use native.Mathlib.Omega.{arith}
 use lib.Dec.{ltb, eqb}
-use lib.ListN.{length, take, length-take}
+use lib.ListN.{length, take}
 use borrow.Author.Tests.{eqb-true, not-false}
 use Rattle.units.specs.declared.Refusal.{Refusal}
 use Rattle.units.specs.declared.Check.{Check}
@@ -14,13 +13,9 @@ use Rattle.units.specs.Refusals.{Verdict, passes, refuses, _▷_, refuseIf, che
 use Rattle.units.proofs.Verdicts.{passed, refused-first, refused-keeps, no-fault, Tabled, tabled-if, tabled-then, printed}
 use Rattle.sdc2d.specs.System.{System, systemVerdict}
 use Rattle.sdc2d.proofs.Tabled.{system-tabled}
-use Rattle.legal_at.specs.Lists.{Constraints, offsetsShaped}
-use Rattle.legal.specs.Scan.{bayAt}
+use Rattle.bay_lists.specs.Lists.{Constraints, offsetsShaped}
+use Rattle.scan_order.specs.Scan.{bayAt}
 use Rattle.legal.specs.Sets.{bays, setsOf, shapeVerdict, firstEmpty, emptyVerdict, allowedVerdict, setsAfter, Worked}
-
--- a front of n elements is there
-pub front-fits : (n : ℕ) (table : List ℕ) {front : List ℕ} → take n table ≡ front → length front ≡ n → n ≤ length table
-front-fits n table e f = omega (arith, length-take n table, ap length e ∙ f)
 
 -- the last link: refused, or the sets copied
 pub worked-refused : (rows cols : ℕ) (sets old : List ℕ) {x : Check} {r : Refusal} → x ≡ check (emptyVerdict rows cols sets) → x ≡ Refused r → Worked rows cols sets (Refused r) old old

@@ -1,13 +1,18 @@
 -- The front of a table that is written from its start. Assumes nothing.
-use Prim.Native.Nat.{ℕ, zero, suc, _+_, _<_}
+use Prim.Native.Nat.{ℕ, zero, suc, _+_, _≤_, _<_}
 use mathlib.Core.Path.{_≡_, refl, sym, _∙_, ap, ap₂}
 use mathlib.Core.Bool.{Bool}
 use mathlib.Core.List.{List, [], _∷_, _++_}
 use native.Mathlib.Numerals.{add-one}
-use lib.ListN.{length, getD, set, take, length-append}
+use native.Mathlib.Omega.{arith}
+use lib.ListN.{length, getD, set, take, length-append, length-take}
 use lib.Seq.{take-suc, take-suc-set}
 use Rattle.sets.specs.Set.{word}
 use Rattle.legal.specs.Sets.{setsTo}
+
+-- a front of n elements is there
+pub front-fits : {A : Type 0} (n : ℕ) (table : List A) {front : List A} → take n table ≡ front → length front ≡ n → n ≤ length table
+front-fits n table e f = omega (arith, length-take n table, ap length e ∙ f)
 
 -- one set more
 pub set-more : (legal : ℕ → ℕ → Bool) (table : List ℕ) (bay w : ℕ) → take bay table ≡ setsTo legal bay → bay < length table → w ≡ word (legal bay) 64

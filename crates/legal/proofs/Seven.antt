@@ -10,10 +10,10 @@ use lib.Seq.{getD-append-seam}
 use borrow.Author.Tests.{eqb-true, eqb-false, ltb-true, ltb-false, lt-ltb}
 use Rattle.units.specs.Refusals.{Verdict, refuses, refuseIf}
 use Rattle.sets.specs.Set.{word}
-use Rattle.legal.specs.Scan.{bayAt, numberAt}
+use Rattle.scan_order.specs.Scan.{bayAt, numberAt}
 use Rattle.legal.specs.Sets.{setsTo, firstEmpty, emptyVerdict}
 use Rattle.legal.proofs.Fronts.{length-sets}
-use Rattle.legal.proofs.Scanned.{number-inside, scanned}
+use Rattle.scan_order.proofs.Scanned.{number-inside, scanned}
 
 module _ (rows cols : ℕ) (sets : List ℕ) where
   -- the set of the bay that is scanned as number k

@@ -10,9 +10,9 @@ use Rattle.units.specs.Refusals.{Verdict, refuseIf, _▷_, check, ifPasses}
 use Rattle.sets.specs.Set.{word}
 use Rattle.sdc2d.specs.declared.sizes.Sizes.{Sizes}
 use Rattle.sdc2d.specs.System.{System, systemVerdict}
-use Rattle.legal_at.specs.Lists.{Constraints, offsetsShaped}
+use Rattle.bay_lists.specs.Lists.{Constraints, offsetsShaped}
 use Rattle.legal_at.specs.Legal.{isLegal}
-use Rattle.legal.specs.Scan.{bayAt}
+use Rattle.scan_order.specs.Scan.{bayAt}
 
 abbrev pub bays : Sizes → ℕ
 bays z = z .rows * z .cols

@@ -6,35 +6,15 @@ ghost use lib.ListN.{length, take};
 ghost use Rattle.units.specs.Refusals.{check, Prints};
 ghost use Rattle.sdc2d.specs.System.{system};
 ghost use Rattle.legal_at.specs.Legal.{legalAt};
-ghost use Rattle.legal_at.specs.Lists.{constraints, offsetsShaped};
+ghost use Rattle.bay_lists.specs.Lists.{constraints, offsetsShaped};
 ghost use Rattle.legal_at.specs.OnGrid.{Grid};
 ghost use Rattle.legal.specs.Sets.{setsTo, shapeVerdict, allowedVerdict, setsAfter, Worked};
 use crate::grid::grid_sets;
-use entries::offsets_fit;
+use bay_lists::offsets_shaped;
 use sdc2d::Sizes;
 use sdc2d::check_system;
 use units::Check;
 use units::Refusal;
-
-// Whether constraint offsets, where there are any, have the right shape.
-fn offsets_shaped(bays: usize, constrained: bool, offsets: &[usize], tiles: &[u32]) -> bool
-    requires { ⌜ bays ≤ 1024 ⌝ }
-    ensures { λ r. ⌜ r ≡ offsetsShaped bays (constraints constrained (now (offsets .entry)) (now (tiles .entry))) ⌝ }
-{
-    if !constrained {
-        return true;
-    }
-    if offsets.len() != bays + 1 {
-        return false;
-    }
-    if offsets[0] != 0 {
-        return false;
-    }
-    if !offsets_fit(offsets, tiles.len()) {
-        return false;
-    }
-    offsets[bays] == tiles.len()
-}
 
 // Refusal 5.
 pub fn check_shape(

@@ -8,11 +8,12 @@ use lib.Ieee.{Float}
 use borrow.Author.Tests.{lt-ltb, eqb-true}
 use Rattle.sets.specs.Set.{word}
 use Rattle.sets.proofs.Words.{word-same}
-use Rattle.bonds.specs.Bonds.{scaffoldGlue}
+use Rattle.glue_tables.specs.Tables.{scaffoldGlue}
 use Rattle.sdc2d.specs.declared.sizes.Sizes.{Sizes}
 use Rattle.legal_at.specs.declared.seeds.Seed.{Seed}
 use Rattle.legal_at.specs.declared.seeds.Seed.the-variants.{Unseeded, Seeded}
-use Rattle.legal_at.specs.Legal.{seedAt, mayLie, permits, permitted}
+use Rattle.binding_strands.specs.Binding.{mayLie}
+use Rattle.legal_at.specs.Legal.{seedAt, permits, permitted}
 use Rattle.legal_at.specs.OnGrid.{Below}
 
 and-false : (a : Bool) → false ≡ (a && false)

@@ -14,7 +14,7 @@ use Rattle.sets.proofs.Operations.{word-none, word-only}
 use Rattle.sdc2d.specs.System.{System}
 use Rattle.legal_at.specs.declared.seeds.Seed.{Seed}
 use Rattle.legal_at.specs.declared.seeds.Seed.the-variants.{Unseeded, Seeded}
-use Rattle.legal_at.specs.Lists.{Constraints, constraints, names, listAllows, listOf}
+use Rattle.bay_lists.specs.Lists.{Constraints, constraints, names, listAllows, listOf}
 use Rattle.legal_at.specs.Legal.{seedAt, permits, isLegal, setAt}
 
 and-false : (a : Bool) → (a && false) ≡ false

@@ -1,19 +1,17 @@
 -- The legal strands of a bay, in document 01's words. Assumes nothing.
 use Prim.Native.Nat.{ℕ, _+_, _*_}
-use mathlib.Core.Bool.{Bool, cond, _&&_, _||_}
+use mathlib.Core.Bool.{Bool, cond, _&&_}
 use mathlib.Core.List.{List, [], _∷_}
 use lib.Dec.{eqb, ltb}
-use lib.Ieee.{Float, ne}
-use Rattle.units.specs.declared.BaseEnergy.{BaseEnergy}
-use Rattle.units.specs.Decimals.{plus}
-use Rattle.units.specs.Glues.{bottomOf}
+use lib.Ieee.{Float}
 use Rattle.sets.specs.Set.{word}
-use Rattle.bonds.specs.Bonds.{cellOf, gluesOf, scaffoldGlue}
+use Rattle.glue_tables.specs.Tables.{scaffoldGlue}
+use Rattle.bay_lists.specs.Lists.{Constraints, listOf, listAllows}
+use Rattle.binding_strands.specs.Binding.{mayLie}
 use Rattle.sdc2d.specs.declared.sizes.Sizes.{Sizes}
 use Rattle.sdc2d.specs.System.{System}
 use Rattle.legal_at.specs.declared.seeds.Seed.{Seed}
 use Rattle.legal_at.specs.declared.seeds.Seed.the-variants.{Unseeded, Seeded}
-use Rattle.legal_at.specs.Lists.{Constraints, listOf, listAllows}
 
 -- a later seed on the same bay replaces an earlier one
 abbrev pub later : (new old : Seed) → Seed
@@ -26,18 +24,6 @@ seedAt cols [] bay = Unseeded
 seedAt cols (row ∷ []) bay = Unseeded
 seedAt cols (row ∷ col ∷ []) bay = Unseeded
 seedAt cols (row ∷ col ∷ strand ∷ seeds) bay = later (seedAt cols seeds bay) (cond (eqb (row * cols + col) bay) (Seeded strand) Unseeded)
-
--- a cell has a ΔG or a ΔS different from zero; minus zero is zero
-abbrev pub isBond : BaseEnergy → Bool
-isBond energy = ne (energy .dg) (plus 0 1) || ne (energy .ds) (plus 0 1)
-
--- a strand's bottom glue binds a glue
-abbrev pub binds : (strandGlues : List ℕ) → (deltaG entropy : List Float) → (glues glue strand : ℕ) → Bool
-binds strandGlues deltaG entropy glues glue strand = isBond (cellOf deltaG entropy glues glue (bottomOf (gluesOf strandGlues strand)))
-
--- a strand that may lie on an unseeded bay with this glue: 0, and each strand that binds it
-abbrev pub mayLie : (strandGlues : List ℕ) → (deltaG entropy : List Float) → (glues glue strand : ℕ) → Bool
-mayLie strandGlues deltaG entropy glues glue strand = eqb strand 0 || binds strandGlues deltaG entropy glues glue strand
 
 -- a strand that a bay permits without constraints: the seed alone, else what may lie on its glue
 abbrev pub permits : Sizes → (strandGlues scaffold : List ℕ) → (deltaG entropy : List Float) → (bay : ℕ) → Seed → (strand : ℕ) → Bool

@@ -1,5 +1,4 @@
 // The legal strands of one bay, as a set.
-mod lists;
 mod seeds;
 mod sets_at;
 

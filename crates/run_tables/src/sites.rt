@@ -5,7 +5,7 @@ ghost use lib.ListN.{length, take};
 ghost use Rattle.bonds.specs.Readable.{Readable};
 ghost use Rattle.run_tables.specs.Tables.{siteEnergy, siteTable, Stocked};
 use beta_energies::site_beta_energy;
-use legal::bay_at;
+use scan_order::bay_at;
 use sdc2d::Sizes;
 
 // The energy of a bay with a number below 64, 0.0 where it is no strand.

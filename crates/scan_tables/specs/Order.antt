@@ -4,7 +4,7 @@ use mathlib.Core.Bool.{Bool, cond}
 use mathlib.Core.List.{List}
 use lib.Dec.{leb}
 use lib.ListN.{getD}
-use Rattle.legal.specs.Scan.{bayAt}
+use Rattle.scan_order.specs.Scan.{bayAt}
 use Rattle.ledger_rows.specs.Blocks.{tab}
 
 -- major lines are rows: the previous one is to the north, and the previous bay of the line to the west

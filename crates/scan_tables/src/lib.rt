@@ -2,11 +2,11 @@
 ghost use mathlib.Core.Path.{_≡_};
 ghost use Prim.Native.Nat.{_*_, _≤_};
 ghost use lib.ListN.{length, getD, take};
-ghost use Rattle.legal.specs.Scan.{numberAt};
+ghost use Rattle.scan_order.specs.Scan.{numberAt};
 ghost use Rattle.ledger_rows.specs.Blocks.{tab};
 ghost use Rattle.scan_tables.specs.Order.{scanSets, byRows, window};
-use legal::bay_at;
-use legal::number_at;
+use scan_order::bay_at;
+use scan_order::number_at;
 
 // Writes sets that stand row by row to the front of a table, in scan order.
 pub fn fill_scan(rows: usize, cols: usize, sets: &[u64], scan: &mut [u64])

@@ -11,7 +11,8 @@ use Rattle.units.specs.Places.{firstFailing, placeVerdict}
 use Rattle.units.specs.Refusals.{Verdict, passes, _▷_}
 use Rattle.units.proofs.Places.{none-fails}
 use Rattle.units.proofs.Verdicts.{no-fault, first-passes, rest-passes}
-use Rattle.sdc2d.specs.System.{System, firstBadSeed, sizesVerdict, gluesVerdict, energiesVerdict, seedsVerdict, systemVerdict}
+use Rattle.table_checks.specs.Tables.{gluesVerdict, energiesVerdict}
+use Rattle.sdc2d.specs.System.{System, firstBadSeed, sizesVerdict, seedsVerdict, systemVerdict}
 use Rattle.sdc2d.proofs.Ranges.{Shaped, shaped}
 
 pub record Fine (s : System) : Type 0 where

@@ -1,4 +1,3 @@
-pub mod Placed
 pub mod Seeds
 pub mod Ranges
 pub mod Tabled

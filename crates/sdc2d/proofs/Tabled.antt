@@ -10,7 +10,8 @@ use Rattle.units.specs.Finite.{finite}
 use Rattle.units.specs.Places.{firstFailing, placeVerdict}
 use Rattle.units.specs.Refusals.{Verdict, _▷_}
 use Rattle.units.proofs.Verdicts.{Tabled, tabled-if, tabled-then}
-use Rattle.sdc2d.specs.System.{System, sizesFit, lengthsFit, isLog, firstBadSeed, sizesVerdict, gluesVerdict, energiesVerdict, seedsVerdict, systemVerdict}
+use Rattle.table_checks.specs.Tables.{isLog, gluesVerdict, energiesVerdict}
+use Rattle.sdc2d.specs.System.{System, sizesFit, lengthsFit, firstBadSeed, sizesVerdict, seedsVerdict, systemVerdict}
 
 pub system-tabled : (s : System) → Tabled (systemVerdict s)
 system-tabled s =

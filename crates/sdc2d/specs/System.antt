@@ -1,15 +1,16 @@
 -- The system and what is refused of it, numbers 1 to 4. Assumes nothing.
-use Prim.Native.Nat.{ℕ, zero, suc, _+_, _*_, _/_, _%_}
-use mathlib.Core.Bool.{Bool, true, false, cond, not, _&&_}
+use Prim.Native.Nat.{ℕ, zero, suc, _*_, _/_, _%_}
+use mathlib.Core.Bool.{Bool, cond, not, _&&_}
 use mathlib.Core.List.{List, [], _∷_}
 use lib.Dec.{leb, ltb, eqb}
-use lib.Ieee.{Float, nan, inf, fin}
-use lib.ListN.{length, drop}
-use Rattle.units.specs.Finite.{finite}
+use lib.Ieee.{Float}
+use lib.ListN.{length}
 use Rattle.units.specs.Kelvin.{inKelvinRange}
-use Rattle.units.specs.Places.{placeVerdict}
 use Rattle.units.specs.Refusals.{Verdict, refuseIf, _▷_}
 use Rattle.sdc2d.specs.declared.sizes.Sizes.{Sizes}
+-- 2 and 3, and what is a log concentration, are passed on from where they stand
+pub use Rattle.table_checks.specs.Tables.{gluesVerdict, energiesVerdict}
+unfoldable pub use Rattle.table_checks.specs.Tables.{isLog}
 
 -- What every call on a system is lent, in this order.
 pub record System : Type 0 where
@@ -54,24 +55,6 @@ lengthsFit s =
 -- 1: a size or the temperature is out of range, or a slice has the wrong length
 abbrev pub sizesVerdict : System → Verdict
 sizesVerdict s = refuseIf (not (sizesFit (s .sizes) && lengthsFit s)) 1 []
-
--- 2, with the first place through strand glues, then scaffold: a glue number is not below the count
-abbrev pub gluesVerdict : (glues : ℕ) → (strandGlues scaffold : List ℕ) → Verdict
-gluesVerdict glues strandGlues scaffold =
-    placeVerdict 2 0 (λ g. ltb g glues) strandGlues ▷ placeVerdict 2 (length strandGlues) (λ g. ltb g glues) scaffold
-
--- a log concentration that is neither a NaN nor plus infinity
-unfoldable pub isLog : Float → Bool
-isLog nan = false
-isLog (inf negative) = negative
-isLog (fin negative m e) = true
-
--- 3, with the first place through ΔG, ΔS, log concentrations: an energy is not finite, or a logarithm is none; strand 0's is never read
-abbrev pub energiesVerdict : (deltaG entropy logs : List Float) → Verdict
-energiesVerdict deltaG entropy logs =
-    placeVerdict 3 0 finite deltaG
-    ▷ placeVerdict 3 (length deltaG) finite entropy
-    ▷ placeVerdict 3 (length deltaG + length entropy + 1) isLog (drop 1 logs)
 
 -- a seed lies on the grid and its strand is below the count
 abbrev pub seedFits : Sizes → (row col strand : ℕ) → Bool

@@ -4,5 +4,3 @@ mod system;
 
 pub use sizes::Sizes;
 pub use system::check_system;
-pub use system::first_large;
-pub use system::place_check;

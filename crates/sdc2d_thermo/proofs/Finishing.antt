@@ -19,6 +19,7 @@ use Rattle.units.specs.Refusals.{Verdict, passes, refuses, refuseIf, _▷_, che
 use Rattle.units.proofs.Verdicts.{passed, refused-keeps, no-fault, first-passes, rest-passes}
 use Rattle.units.proofs.Answers.{refused, an-energy}
 use Rattle.beta_energies.specs.Energies.{noEnergy}
+use Rattle.beta_energies.proofs.Laws.{no-energy-is}
 use Rattle.state_energy.specs.StateG.{energyVerdict, inKcal}
 use Rattle.ledger_rows.specs.Scan.{Scan, Filled}
 use Rattle.ledger_rows.specs.Blocks.{need, energyTable, noteTable}
@@ -32,7 +33,6 @@ use Rattle.least_layout.specs.Run.{rowByRow}
 use Rattle.sdc2d_thermo.specs.Run.{front, tableAfter}
 use Rattle.system_run.specs.Steps.{OnBoard, Roomy, Ran}
 use Rattle.sdc2d_thermo.specs.Steps.{Finished}
-use Rattle.least_layout.proofs.TheRunIsRight.{no-energy-is}
 
 -- ---- refused before anything is written
 refused-lays : {A : Type 0} {x : Check} {r : Refusal} (v u : Verdict) (new old : A) → x ≡ check v → x ≡ Refused r → old ≡ ifPasses (v ▷ u) new old

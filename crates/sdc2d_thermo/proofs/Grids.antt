@@ -16,18 +16,17 @@ use Rattle.legal_at.specs.Lists.{Constraints, offsetsShaped}
 use Rattle.legal_at.specs.Legal.{isLegal}
 use Rattle.legal_at.specs.OnGrid.{Grid}
 use Rattle.legal_at.proofs.Sound.{sound}
-use Rattle.legal.specs.Scan.{bayAt}
+use Rattle.scan_order.specs.Scan.{bayAt}
 use Rattle.legal.specs.Sets.{bays, setsTo, setsOf, shapeVerdict, emptyVerdict}
 use Rattle.legal.proofs.Answered.{right}
-use Rattle.legal.proofs.Fronts.{length-sets}
-use Rattle.legal.proofs.Scanned.{bay-inside}
+use Rattle.legal.proofs.Fronts.{front-fits, length-sets}
+use Rattle.scan_order.proofs.Scanned.{bay-inside}
 use Rattle.ledger_rows.specs.Scan.{Filled}
 use Rattle.ledger_fill.specs.Handed.{setScan}
 use Rattle.scan_tables.specs.Order.{window, scanSets}
 use Rattle.run_tables.specs.Tables.{Stocked}
 use Rattle.least_layout.specs.Run.{systemScan}
 use Rattle.system_run.specs.Steps.{OnBoard}
-use Rattle.system_run.proofs.Boards.{front-fits}
 use Rattle.system_run.proofs.Ordered.{tab-same}
 use Rattle.least_layout.proofs.Passed.{filled}
 

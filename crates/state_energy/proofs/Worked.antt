@@ -12,7 +12,8 @@ use Rattle.units.specs.Finite.{finite}
 use Rattle.units.specs.Kelvin.{gasConstant}
 use Rattle.units.specs.Places.{firstFailing}
 use Rattle.units.specs.Refusals.{refusal}
-use Rattle.sdc2d.specs.System.{System, system, isLog, firstBadSeed}
+use Rattle.table_checks.specs.Tables.{isLog}
+use Rattle.sdc2d.specs.System.{System, system, firstBadSeed}
 use Rattle.beta_energies.specs.Energies.{bayEnergy, edgeEnergy, noEnergy}
 use Rattle.listing_sum.specs.Listing.{withWest, withNorth, listing}
 use Rattle.state_energy.specs.StateG.{stateG}

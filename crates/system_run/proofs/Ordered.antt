@@ -8,8 +8,8 @@ use native.Mathlib.Numerals.{add-one}
 use native.Mathlib.Omega.{arith}
 use lib.ListN.{length, getD, length-append, List·getD-append}
 use lib.Seq.{getD-at}
-use Rattle.legal.specs.Scan.{numberAt}
-use Rattle.legal.proofs.Scanned.{number-inside}
+use Rattle.scan_order.specs.Scan.{numberAt}
+use Rattle.scan_order.proofs.Scanned.{number-inside}
 use Rattle.ledger_rows.specs.Scan.{Scan}
 use Rattle.ledger_rows.specs.Blocks.{tab}
 use Rattle.ledger_rows.specs.Trace.{trace}

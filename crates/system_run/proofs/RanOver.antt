@@ -9,7 +9,8 @@ use lib.Ieee.{Float, inf, lt}
 use lib.ListN.{length, getD}
 use borrow.Author.Tests.{not-true, not-false}
 use Rattle.beta_energies.specs.Energies.{noEnergy}
-use Rattle.legal.specs.Scan.{numberAt}
+use Rattle.beta_energies.proofs.Laws.{no-energy-is}
+use Rattle.scan_order.specs.Scan.{numberAt}
 use Rattle.ledger_rows.specs.Scan.{Scan}
 use Rattle.ledger_rows.specs.Blocks.{tab}
 use Rattle.ledger_rows.specs.Trace.{answer, answerRow, layout}
@@ -20,7 +21,6 @@ use Rattle.scan_tables.specs.Order.{window}
 use Rattle.least_layout.specs.Run.{rowByRow}
 use Rattle.system_run.specs.Steps.{OnBoard, Ran}
 use Rattle.system_run.proofs.Ordered.{length-trace, laid-out}
-use Rattle.least_layout.proofs.TheRunIsRight.{no-energy-is}
 
 pub some-bays : {rows cols scan lent : ℕ} → OnBoard rows cols scan lent → 0 < scan
 some-bays on = subst (λ (n : ℕ). 0 < n) (sym (on .scanned)) (mul-pos (on .some-rows) (on .some-cols))

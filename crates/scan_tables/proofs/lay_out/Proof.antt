@@ -5,8 +5,8 @@ use native.Mathlib.Omega.{arith}
 use lib.ListN.{length, getD, take, length-set}
 use denote.Ref.{now}
 use borrow.Author.Needs.{scaled-fits}
-use Rattle.legal.specs.Scan.{numberAt}
-use Rattle.legal.proofs.Scanned.{number-inside}
+use Rattle.scan_order.specs.Scan.{numberAt}
+use Rattle.scan_order.proofs.Scanned.{number-inside}
 use Rattle.ledger_rows.specs.Blocks.{tab}
 use Rattle.scan_tables.proofs.Written.{one-more, whole, none-yet}
 use Rattle.scan_tables.proofs.lay_out.Statement.{statement}

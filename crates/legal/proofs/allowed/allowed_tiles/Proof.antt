@@ -9,7 +9,7 @@ use Rattle.units.proofs.Verdicts.{passed}
 use Rattle.sdc2d.specs.System.{System, system, systemVerdict}
 use Rattle.sdc2d.proofs.Fine.{Fine, fine}
 use Rattle.legal_at.specs.Legal.{isLegal}
-use Rattle.legal_at.specs.Lists.{Constraints, constraints, offsetsShaped}
+use Rattle.bay_lists.specs.Lists.{Constraints, constraints, offsetsShaped}
 use Rattle.legal_at.proofs.Sound.{sound}
 use Rattle.legal.specs.Sets.{setsTo, Worked}
 use Rattle.legal.proofs.Answered.{Right, right, system-refuses, shape-refuses, sets-answer}

@@ -8,9 +8,9 @@ use lib.ListN.{length}
 use denote.Ref.{now}
 use borrow.Author.Needs.{needs}
 use Rattle.legal_at.specs.Legal.{legalAt}
-use Rattle.legal_at.specs.Lists.{constraints}
-use Rattle.legal.proofs.Answered.{front-fits, worked-refused, worked-done}
-use Rattle.legal.proofs.Fronts.{length-sets}
+use Rattle.bay_lists.specs.Lists.{constraints}
+use Rattle.legal.proofs.Answered.{worked-refused, worked-done}
+use Rattle.legal.proofs.Fronts.{front-fits, length-sets}
 use Rattle.legal.specs.Sets.{setsTo}
 use Rattle.legal.proofs.allowed.sets_of.Statement.{statement}
 use Rattle.legal.proofs.allowed.sets_of.Tie as tie

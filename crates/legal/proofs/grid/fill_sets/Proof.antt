@@ -7,7 +7,7 @@ use denote.Ref.{now}
 use borrow.Author.Needs.{needs}
 use borrow.Author.Needs.{scaled-fits}
 use Rattle.legal_at.specs.Legal.{legalAt}
-use Rattle.legal_at.specs.Lists.{constraints}
+use Rattle.bay_lists.specs.Lists.{constraints}
 use Rattle.legal.proofs.Fronts.{set-more, no-set}
 use Rattle.legal.specs.Sets.{setsTo}
 use Rattle.legal.proofs.grid.fill_sets.Statement.{statement}

@@ -8,8 +8,8 @@ use denote.Ref.{now}
 use borrow.Author.Needs.{needs}
 use borrow.Author.Needs.{scaled-fits}
 use Rattle.legal.proofs.Emptiness.{found-here, one-on, none-left}
-use Rattle.legal.proofs.Scanned.{bay-inside}
-use Rattle.legal.specs.Scan.{bayAt}
+use Rattle.scan_order.proofs.Scanned.{bay-inside}
+use Rattle.scan_order.specs.Scan.{bayAt}
 use Rattle.legal.specs.Sets.{firstEmpty}
 use Rattle.legal.proofs.grid.first_empty.Statement.{statement}
 use Rattle.legal.proofs.grid.first_empty.Tie as tie

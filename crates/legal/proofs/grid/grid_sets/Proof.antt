@@ -8,7 +8,7 @@ use denote.Ref.{now}
 use borrow.Author.Needs.{needs}
 use Rattle.units.specs.Refusals.{check}
 use Rattle.legal_at.specs.Legal.{legalAt}
-use Rattle.legal_at.specs.Lists.{constraints}
+use Rattle.bay_lists.specs.Lists.{constraints}
 use Rattle.legal.proofs.Fronts.{length-sets}
 use Rattle.legal.specs.Sets.{setsTo, emptyVerdict}
 use Rattle.legal.proofs.grid.grid_sets.Statement.{statement}

@@ -6,7 +6,7 @@ use lib.Dec.{ltb}
 use denote.Ref.{now}
 use borrow.Author.Needs.{needs}
 use Rattle.legal_at.proofs.BaseSet.{seeded, unseeded}
-use Rattle.legal_at.specs.Legal.{mayLie}
+use Rattle.binding_strands.specs.Binding.{mayLie}
 use Rattle.sets.specs.Set.{word}
 use Rattle.legal_at.proofs.sets_at.base_allowed_tiles_at.Statement.{statement}
 use Rattle.legal_at.proofs.sets_at.base_allowed_tiles_at.Tie as tie

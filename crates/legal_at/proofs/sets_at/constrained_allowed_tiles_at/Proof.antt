@@ -1,9 +1,9 @@
 -- `legal_at::sets_at::constrained_allowed_tiles_at` meets its contract: its list keeps some of what the bay permits. Assumes nothing.
 use denote.Ref.{now}
 use borrow.Author.Needs.{needs}
-use Rattle.legal_at.proofs.Restricting.{kept-of}
+use Rattle.bay_lists.proofs.Restricting.{kept-of}
 use Rattle.legal_at.specs.Legal.{permitted}
-use Rattle.legal_at.specs.Lists.{constraints, listOf, listAllows}
+use Rattle.bay_lists.specs.Lists.{constraints, listOf, listAllows}
 use Rattle.legal_at.proofs.sets_at.constrained_allowed_tiles_at.Statement.{statement}
 use Rattle.legal_at.proofs.sets_at.constrained_allowed_tiles_at.Tie as tie
 

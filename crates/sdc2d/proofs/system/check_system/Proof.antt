@@ -8,7 +8,8 @@ use Rattle.units.proofs.Verdicts.{refused-first, passed, passed-first, printed}
 use Rattle.units.specs.Refusals.{Verdict, passes, check, _▷_}
 use Rattle.sdc2d.proofs.Ranges.{Shaped, shaped}
 use Rattle.sdc2d.proofs.Tabled.{system-tabled}
-use Rattle.sdc2d.specs.System.{System, system, sizesVerdict, gluesVerdict, energiesVerdict, seedsVerdict, systemVerdict}
+use Rattle.table_checks.specs.Tables.{gluesVerdict, energiesVerdict}
+use Rattle.sdc2d.specs.System.{System, system, sizesVerdict, seedsVerdict, systemVerdict}
 use Rattle.sdc2d.proofs.system.check_system.Statement.{statement}
 use Rattle.sdc2d.proofs.system.check_system.Tie as tie
 

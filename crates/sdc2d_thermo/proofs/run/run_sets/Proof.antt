@@ -5,7 +5,8 @@ use mathlib.Core.List.{List}
 use lib.ListN.{length, getD, take}
 use denote.Ref.{now}
 use borrow.Author.Needs.{needs}
-use Rattle.legal.specs.Scan.{bayAt}
+use Rattle.scan_order.specs.Scan.{bayAt}
+use Rattle.legal.proofs.Fronts.{front-fits}
 use Rattle.ledger_rows.specs.Scan.{Filled}
 use Rattle.ledger_rows.specs.Blocks.{need}
 use Rattle.ledger_rows.proofs.Lists.{length-tab}
@@ -14,7 +15,7 @@ use Rattle.scan_tables.specs.Order.{window}
 use Rattle.run_room.specs.Room.{roomVerdict}
 use Rattle.least_layout.specs.Run.{tableScan}
 use Rattle.sdc2d_thermo.specs.Steps.{Finished}
-use Rattle.system_run.proofs.Boards.{few-bays, front-fits}
+use Rattle.system_run.proofs.Boards.{few-bays}
 use Rattle.sdc2d_thermo.proofs.run.run_sets.Statement.{statement}
 use Rattle.sdc2d_thermo.proofs.run.run_sets.Tie as tie
 

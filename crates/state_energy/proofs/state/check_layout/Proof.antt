@@ -8,7 +8,7 @@ use lib.Dec.{ltb}
 use denote.Ref.{now}
 use borrow.Author.Needs.{needs}
 use borrow.Author.Tests.{eq-eqb, ne-eqb}
-use Rattle.sdc2d.proofs.Placed.{placed}
+use Rattle.table_checks.proofs.Placed.{placed}
 use Rattle.state_energy.proofs.state.check_layout.Statement.{statement}
 use Rattle.state_energy.proofs.state.check_layout.Tie as tie
 
