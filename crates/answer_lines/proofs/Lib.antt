@@ -1,4 +1,2 @@
 pub mod Examples
-pub mod Putting
 pub mod Refusing
-pub mod Spelling

@@ -11,7 +11,7 @@ use lib.ListN.{length, getD, take}
 use lib.Seq.{take-nil}
 use Rattle.units.specs.Refusals.{valueCount}
 use Rattle.units.specs.declared.Refusal.{Refusal}
-use Rattle.answer_lines.specs.Puts.{numberText}
+use Rattle.answer_texts.specs.Puts.{numberText}
 use Rattle.answer_lines.specs.Lines.{refusedWord, spaced, refusedText}
 
 -- whether a list has the counts of the numbers from n on

@@ -5,7 +5,7 @@ use mathlib.Core.List.{List, [], _∷_, _++_}
 use Rattle.units.specs.Refusals.{valuesOf}
 use Rattle.units.specs.declared.Check.the-variants.{Refused}
 use Rattle.units.specs.declared.Refusal.{Refusal}
-use Rattle.answer_lines.specs.Puts.{numberText}
+use Rattle.answer_texts.specs.Puts.{numberText}
 
 -- `unreadable`
 abbrev pub unreadableText : List ℕ

@@ -1,17 +1,81 @@
-// The writer of answer lines that the `answers_*` programs share. docs/CASES.md says what they look like.
-//
-// Each function puts a text at the place `at` of a lent slice, leaves the rest of the slice as it is, and answers the next place.
-// What does not fit is cut off, and the next place is then the slice's end: a run of these calls leaves the answer, or as much
-// of its front as has room.
-mod lines;
-mod puts;
+// The writer of answer lines that the `answers_*` programs share: a refusal with its values, a word with a number or with floats.
+// docs/CASES.md says what they look like; `answer_texts` says how a text is put.
+ghost use mathlib.Core.Path.{_≡_};
+ghost use mathlib.Core.List.{_++_};
+ghost use Rattle.units.specs.Refusals.{valueCount};
+ghost use Rattle.answer_texts.specs.Puts.{Put, numberText, floatText};
+ghost use Rattle.answer_lines.specs.Lines.{unreadableText, refusedText, tablesText};
+pub use answer_texts::put_float;
+pub use answer_texts::put_number;
+pub use answer_texts::put_signed;
+pub use answer_texts::put_text;
+use units::Refusal;
 
-pub use lines::put_floats;
-pub use lines::put_value;
-pub use lines::refused;
-pub use lines::refused_with_tables;
-pub use lines::unreadable;
-pub use puts::put_float;
-pub use puts::put_number;
-pub use puts::put_signed;
-pub use puts::put_text;
+// A case that cannot be read.
+pub fn unreadable(out: &mut [u8]) -> usize
+    ensures { λ r. ⌜ Put (now (out .entry)) 0 unreadableText r (now (out .exit)) ⌝ }
+{
+    put_text(out, 0, b"unreadable")
+}
+
+// A sign and a number after it.
+pub fn put_value(out: &mut [u8], at: usize, sign: &[u8], value: usize) -> usize
+    ensures { λ r. ⌜ Put (now (out .entry)) at (now (sign .entry) ++ numberText value) r (now (out .exit)) ⌝ }
+{
+    let next = put_text(out, at, sign);
+    put_number(out, next, value as u64)
+}
+
+// How many values stand beside a number in document 01's table.
+fn value_count(number: u32) -> usize
+    ensures { λ r. ⌜ r ≡ valueCount number ⌝ }
+{
+    let counts: [usize; 19] = [0, 0, 1, 1, 1, 0, 1, 1, 0, 1, 0, 2, 0, 0, 1, 1, 1, 0, 1];
+    let place = number as usize;
+    if place < 19 { counts[place] } else { 0 }
+}
+
+// `refused`, the number, and its values.
+pub fn refused(out: &mut [u8], refusal: Refusal) -> usize
+    ensures { λ r. ⌜ Put (now (out .entry)) 0 (refusedText refusal) r (now (out .exit)) ⌝ }
+{
+    let number = refusal.number;
+    let at = put_value(out, 0, b"refused ", number as usize);
+    let values = value_count(number);
+    if values == 0 {
+        return at;
+    }
+    let next = put_value(out, at, b" ", refusal.first);
+    if values == 1 {
+        return next;
+    }
+    put_value(out, next, b" ", refusal.second)
+}
+
+// A refusal, and whether the lent tables are as they were.
+pub fn refused_with_tables(out: &mut [u8], refusal: Refusal, kept: bool) -> usize
+    ensures { λ r. ⌜ Put (now (out .entry)) 0 (refusedText refusal ++ tablesText kept) r (now (out .exit)) ⌝ }
+{
+    let at = refused(out, refusal);
+    if kept {
+        return put_text(out, at, b" kept");
+    }
+    put_text(out, at, b" changed")
+}
+
+// Two floats with a sign before each.
+pub fn put_floats(
+    out: &mut [u8],
+    at: usize,
+    first_sign: &[u8],
+    first: f64,
+    second_sign: &[u8],
+    second: f64,
+) -> usize
+    ensures { λ r. ⌜ Put (now (out .entry)) at (now («first_sign» .entry) ++ floatText first ++ now («second_sign» .entry) ++ floatText second) r (now (out .exit)) ⌝ }
+{
+    let word = put_text(out, at, first_sign);
+    let next = put_float(out, word, first);
+    let sign = put_text(out, next, second_sign);
+    put_float(out, sign, second)
+}

@@ -7,7 +7,7 @@ use native.Mathlib.Omega.{arith}
 use lib.Dec.{lit<, lit≤}
 use Rattle.io.specs.Digits.{digits, Fewest}
 use Rattle.case_text.specs.Plain.{isPlain}
-use Rattle.answer_lines.proofs.Spelling.{at-most}
+use Rattle.answer_texts.proofs.Spelling.{at-most}
 use Rattle.answer_lists.specs.Coded.{codedByte}
 
 pub plain-byte : (b : ℕ) → isPlain b ≡ true → b ∷ [] ≡ codedByte b

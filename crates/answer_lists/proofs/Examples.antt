@@ -2,7 +2,7 @@
 use mathlib.Core.List.{[], _∷_}
 use mathlib.Core.Path.{_≡_, refl}
 use Rattle.case_text.specs.Plain.{isPlain}
-use Rattle.answer_lines.specs.Puts.{decimal, numberText}
+use Rattle.answer_texts.specs.Puts.{decimal, numberText}
 use Rattle.answer_lists.specs.Lists.{item, listed}
 use Rattle.answer_lists.specs.Coded.{codedByte, coded}
 

@@ -1,9 +1,9 @@
 // A text as a value: bytes that stand for themselves, and `%` with two hexadecimal digits for any other.
 ghost use mathlib.Core.Path.{_≡_};
 ghost use mathlib.Core.List.{_++_};
-ghost use Rattle.answer_lines.specs.Puts.{Put};
+ghost use Rattle.answer_texts.specs.Puts.{Put};
 ghost use Rattle.answer_lists.specs.Coded.{codedByte, coded};
-use answer_lines::put_text;
+use answer_texts::put_text;
 
 // One byte of a text.
 fn put_byte(out: &mut [u8], at: usize, byte: u8) -> usize

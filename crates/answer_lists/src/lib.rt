@@ -1,6 +1,6 @@
 // Lists and texts in an answer line. docs/CASES.md says what they look like.
 //
-// Each function puts them as `answer_lines` puts a text: at a place of a lent slice, as far as it has room, answering the next place.
+// Each function puts them as `answer_texts` puts a text: at a place of a lent slice, as far as it has room, answering the next place.
 mod coded;
 mod lists;
 

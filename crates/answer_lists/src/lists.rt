@@ -1,11 +1,11 @@
 // Lists: items with a comma between two of them, after a word.
 ghost use mathlib.Core.Path.{_≡_};
 ghost use mathlib.Core.List.{_++_};
-ghost use Rattle.answer_lines.specs.Puts.{Put, numberText, floatText};
+ghost use Rattle.answer_texts.specs.Puts.{Put, numberText, floatText};
 ghost use Rattle.answer_lists.specs.Lists.{item, listed};
-use answer_lines::put_float;
-use answer_lines::put_number;
-use answer_lines::put_text;
+use answer_texts::put_float;
+use answer_texts::put_number;
+use answer_texts::put_text;
 
 // A number as the item at place i of a list.
 pub fn put_next_number(out: &mut [u8], at: usize, i: usize, n: u64) -> usize

@@ -1,4 +1,1 @@
-pub mod Letters
-pub mod Steps
-pub mod Mismatches
-pub mod Loops
+pub mod Bases

@@ -1,4 +1,3 @@
 pub mod Places
 pub mod Fields
-pub mod Digits
 pub mod Plain

@@ -3,28 +3,25 @@
 // Every function takes what it is lent, whatever it is: none has a `requires`. Values are read in
 // place, so a name, a field or an item is a part of the line that it stands in. All take time
 // linear in what they read.
-mod digits;
 mod fields;
-mod fronts;
-mod kinds;
 mod places;
 mod plain;
 
-pub use digits::float;
-pub use digits::number;
-pub use digits::whole;
+pub use case_numbers::FloatValue;
+pub use case_numbers::Number;
+pub use case_numbers::float;
+pub use case_numbers::number;
+pub use case_numbers::whole;
 pub use fields::call_name;
 pub use fields::field;
 pub use fields::has_field;
 pub use fields::is_case;
 pub use fields::same;
-pub use fronts::first_bytes;
-pub use fronts::first_floats;
-pub use fronts::first_long_numbers;
-pub use fronts::first_numbers;
-pub use fronts::first_small_numbers;
-pub use kinds::FloatValue;
-pub use kinds::Number;
 pub use places::item_end;
 pub use places::line_end;
 pub use plain::is_plain;
+pub use slice_fronts::first_bytes;
+pub use slice_fronts::first_floats;
+pub use slice_fronts::first_long_numbers;
+pub use slice_fronts::first_numbers;
+pub use slice_fronts::first_small_numbers;

@@ -8,11 +8,12 @@ use lib.ListN.{length}
 use borrow.Author.Tests.{eqb-true, not-false}
 use Rattle.units.specs.Refusals.{passes, _▷_}
 use Rattle.units.proofs.Verdicts.{Tabled, tabled-if, tabled-then, no-fault, first-passes, rest-passes}
-use Rattle.bases.specs.Letters.{lengthVerdict, lettersVerdict}
-use Rattle.bases.proofs.Limits.{length-tabled, letters-tabled, not-longer}
-use Rattle.sequence_pairs.specs.declared.pair.PairSum.{PairSum}
-use Rattle.sequence_pairs.specs.declared.pair.PairSum.the-variants.{Going, NoLoopValue}
-use Rattle.sequence_pairs.specs.Pair.{unequalVerdict, pairLetters, pairTests, loopsVerdict, pairSum, pairVerdict}
+use Rattle.letters.specs.Letters.{lengthVerdict, lettersVerdict}
+use Rattle.letters.proofs.Limits.{length-tabled, letters-tabled, not-longer}
+use Rattle.pair_windows.specs.declared.PairSum.{PairSum}
+use Rattle.pair_windows.specs.declared.PairSum.the-variants.{Going, NoLoopValue}
+use Rattle.pair_windows.specs.Windows.{pairSum}
+use Rattle.sequence_pairs.specs.Pair.{unequalVerdict, pairLetters, pairTests, loopsVerdict, pairVerdict}
 
 tests-tabled : (a b : List ℕ) → Tabled (pairTests a b)
 tests-tabled a b =

@@ -2,7 +2,7 @@
 ghost use mathlib.Core.Path.{_≡_};
 ghost use Prim.Native.Nat.{_^_, _≤_};
 ghost use lib.ListN.{length};
-ghost use Rattle.case_text.specs.Digits.{worth, isNumber, isFloat, floatIn};
+ghost use Rattle.case_numbers.specs.Digits.{worth, isNumber, isFloat, floatIn};
 ghost use Rattle.case_lists.specs.Lists.{items};
 ghost use Rattle.case_fields.specs.Values.{fieldCount, fieldFront};
 ghost use Rattle.system_text.specs.Reads.{listRead};

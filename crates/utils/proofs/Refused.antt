@@ -10,8 +10,8 @@ use borrow.Author.Tests.{ltb-false}
 use Rattle.units.specs.Refusals.{passes, _▷_}
 use Rattle.units.specs.Kelvin.{kelvinVerdict, inKelvinRange}
 use Rattle.units.proofs.Verdicts.{Tabled, tabled-if, tabled-then, no-fault, first-passes, rest-passes}
-use Rattle.bases.specs.Letters.{lengthVerdict, lettersVerdict, firstBad}
-use Rattle.bases.proofs.Limits.{length-tabled, letters-tabled, not-longer}
+use Rattle.letters.specs.Letters.{lengthVerdict, lettersVerdict, firstBad}
+use Rattle.letters.proofs.Limits.{length-tabled, letters-tabled, not-longer}
 use Rattle.utils.specs.Single.{shortVerdict, sequenceVerdict, singleVerdict, singleAtVerdict}
 
 pub sequence-tabled : (sequence : ℕ) (dna : List ℕ) → Tabled (sequenceVerdict sequence dna)

@@ -4,12 +4,13 @@ use mathlib.Core.List.{map}
 use lib.Ieee.{ofBits, add}
 use Rattle.units.specs.Decimals.{decimal}
 use Rattle.units.specs.Places.{firstFailing}
-use Rattle.bases.specs.Letters.{baseOf, isLetter}
-use Rattle.bases.specs.Steps.{noEnergy, stepOf, dgDs}
-use Rattle.bases.specs.Mismatches.{calcPenalty, penaltyTable}
-use Rattle.bases.specs.Loops.{loopPenalty, upTo, lengths, loopTable}
-use Rattle.sequence_pairs.specs.Pair.{windowsSum}
-use Rattle.utils.specs.Hundredths.{stepsHundredths, endTerm}
+use Rattle.bases.specs.Bases.{baseOf}
+use Rattle.letters.specs.Letters.{isLetter}
+use Rattle.step_values.specs.Steps.{noEnergy, stepOf, dgDs}
+use Rattle.mismatch_values.specs.Mismatches.{calcPenalty, penaltyTable}
+use Rattle.loop_values.specs.Loops.{loopPenalty, upTo, lengths, loopTable}
+use Rattle.pair_windows.specs.Windows.{windowsSum}
+use Rattle.energy_hundredths.specs.Hundredths.{stepsHundredths, endTerm}
 use Rattle.utils.specs.Starred.{Outcome, Case, starred}
 
 pub starred-cases-hold : map (λ (c : Case). c .given) starred ≡ map (λ (c : Case). c .printed) starred

@@ -10,8 +10,9 @@ use Rattle.units.specs.declared.EnergyAnswer.{EnergyAnswer}
 use Rattle.units.specs.Refusals.{Verdict, refuseIf, _▷_}
 use Rattle.units.specs.Answers.{baseEnergyAnswer, energyAnswer}
 use Rattle.units.specs.Kelvin.{kelvinVerdict, energyAt}
-use Rattle.bases.specs.Letters.{baseAt, lengthVerdict, lettersVerdict}
-use Rattle.bases.specs.Steps.{dgDs, start, addEnergy, noEnergy}
+use Rattle.bases.specs.Bases.{baseAt}
+use Rattle.letters.specs.Letters.{lengthVerdict, lettersVerdict}
+use Rattle.step_values.specs.Steps.{dgDs, start, addEnergy, noEnergy}
 
 -- the first n steps, added from 0.0 left to right, the new value plus the sum
 unfoldable pub stepsSum : List ℕ → ℕ → BaseEnergy

@@ -9,9 +9,9 @@ use Rattle.units.specs.declared.HundredthsAnswer.{HundredthsAnswer}
 use Rattle.units.specs.Decimals.{plus}
 use Rattle.units.specs.Refusals.{passes, refuses}
 use Rattle.units.specs.Answers.{baseEnergyAnswer, hundredthsAnswer}
-use Rattle.bases.specs.Letters.{baseAt}
-use Rattle.bases.specs.Steps.{noEnergy}
-use Rattle.bases.specs.Mismatches.{singleMismatchPenalty}
+use Rattle.bases.specs.Bases.{baseAt}
+use Rattle.step_values.specs.Steps.{noEnergy}
+use Rattle.mismatch_values.specs.Mismatches.{singleMismatchPenalty}
 use Rattle.utils.specs.Hundredths.{stringDnaHundredths}
 use Rattle.sequence_pairs.specs.Pair.{sequencePairDgDs}
 

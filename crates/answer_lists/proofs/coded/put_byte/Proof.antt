@@ -1,6 +1,6 @@
 -- `coded::put_byte` meets its contract: a plain byte by itself, any other by its two digits. Assumes nothing.
 use mathlib.Core.Path.{sym, _∙_}
-use Rattle.answer_lines.proofs.Putting.{put-as, then-put}
+use Rattle.answer_texts.proofs.Putting.{put-as, then-put}
 use Rattle.answer_lists.proofs.Bytes.{plain-byte, hidden-byte}
 use borrow.Author.Needs.{needs}
 use Rattle.answer_lists.proofs.coded.put_byte.Statement.{statement}

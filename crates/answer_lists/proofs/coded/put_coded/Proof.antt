@@ -3,7 +3,7 @@ use Prim.Native.Nat.{_+_, _-_}
 use native.Mathlib.Omega.{arith}
 use lib.ListN.{length, getD, drop}
 use Rattle.answer_lists.specs.Coded.{codedByte, coded}
-use Rattle.answer_lines.proofs.Putting.{then-put, put-within, Ending, ending-starts, ending-goes-on, ending-ends}
+use Rattle.answer_texts.proofs.Putting.{then-put, put-within, Ending, ending-starts, ending-goes-on, ending-ends}
 use Rattle.answer_lists.proofs.Listing.{coded-next, coded-end}
 use borrow.Author.Needs.{needs}
 use Rattle.answer_lists.proofs.coded.put_coded.Statement.{statement}

@@ -2,9 +2,9 @@
 use Prim.Native.Nat.{_+_, _-_}
 use native.Mathlib.Omega.{arith}
 use lib.ListN.{length, getD, drop}
-use Rattle.answer_lines.specs.Puts.{numberText}
+use Rattle.answer_texts.specs.Puts.{numberText}
 use Rattle.answer_lists.specs.Lists.{item, listed}
-use Rattle.answer_lines.proofs.Putting.{then-put, put-within, Ending, ending-starts, ending-goes-on, ending-ends}
+use Rattle.answer_texts.proofs.Putting.{then-put, put-within, Ending, ending-starts, ending-goes-on, ending-ends}
 use Rattle.answer_lists.proofs.Listing.{listed-next, listed-end}
 use borrow.Author.Needs.{needs}
 use Rattle.answer_lists.proofs.lists.put_long_numbers.Statement.{statement}

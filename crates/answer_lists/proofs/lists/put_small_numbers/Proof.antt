@@ -3,9 +3,9 @@ use Prim.Native.Nat.{ℕ, _+_, _-_}
 use mathlib.Core.Path.{ap}
 use native.Mathlib.Omega.{arith}
 use lib.ListN.{length, getD, drop}
-use Rattle.answer_lines.specs.Puts.{numberText}
+use Rattle.answer_texts.specs.Puts.{numberText}
 use Rattle.answer_lists.specs.Lists.{item, listed}
-use Rattle.answer_lines.proofs.Putting.{put-as, then-put, put-within, Ending, ending-starts, ending-goes-on, ending-ends}
+use Rattle.answer_texts.proofs.Putting.{put-as, then-put, put-within, Ending, ending-starts, ending-goes-on, ending-ends}
 use Rattle.answer_lists.proofs.Listing.{listed-next, listed-end}
 use borrow.Author.Needs.{needs}
 use Rattle.answer_lists.proofs.lists.put_small_numbers.Statement.{statement}

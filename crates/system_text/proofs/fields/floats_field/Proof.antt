@@ -1,7 +1,7 @@
 -- `system_text::fields::floats_field` meets its contract. Assumes nothing.
 use denote.Ref.{now}
 use borrow.Author.Needs.{needs}
-use Rattle.case_text.specs.Digits.{isFloat, floatIn}
+use Rattle.case_numbers.specs.Digits.{isFloat, floatIn}
 use Rattle.system_text.proofs.Reading.{as-read}
 use Rattle.system_text.proofs.fields.floats_field.Statement.{statement}
 use Rattle.system_text.proofs.fields.floats_field.Tie as tie

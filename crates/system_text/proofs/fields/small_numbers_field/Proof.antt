@@ -2,7 +2,7 @@
 use Prim.Native.Nat.{_^_}
 use denote.Ref.{now}
 use borrow.Author.Needs.{needs}
-use Rattle.case_text.specs.Digits.{worth, isNumber}
+use Rattle.case_numbers.specs.Digits.{worth, isNumber}
 use Rattle.system_text.proofs.Reading.{as-read}
 use Rattle.system_text.proofs.fields.small_numbers_field.Statement.{statement}
 use Rattle.system_text.proofs.fields.small_numbers_field.Tie as tie

@@ -11,7 +11,7 @@ use Rattle.units.proofs.Verdicts.{passed}
 use Rattle.units.specs.Refusals.{passes}
 use Rattle.units.specs.declared.HundredthsAnswer.the-variants.{Hundredths}
 use Rattle.utils.proofs.Refused.{single-tabled, single-short, single-long}
-use Rattle.utils.specs.Hundredths.{singleHundredths}
+use Rattle.energy_hundredths.specs.Hundredths.{singleHundredths}
 use Rattle.utils.specs.Single.{singleVerdict}
 use Rattle.utils.proofs.hundredths.string_dna_hundredths.Statement.{statement}
 use Rattle.utils.proofs.hundredths.string_dna_hundredths.Tie as tie

@@ -4,7 +4,7 @@ use borrow.Author.Tests.{lt-ltb, le-ltb}
 use mathlib.Core.Path.{_≡_, _∙_}
 use denote.Ref.{now}
 use Rattle.units.specs.Refusals.{_▷_}
-use Rattle.bases.specs.Letters.{lengthVerdict, lettersVerdict}
+use Rattle.letters.specs.Letters.{lengthVerdict, lettersVerdict}
 use Rattle.utils.specs.Single.{shortVerdict, sequenceVerdict}
 use Rattle.units.proofs.Verdicts.{refused-first, passed-first}
 use Rattle.utils.proofs.single.check_single.Statement.{statement}

@@ -1,0 +1,3 @@
+pub mod Examples
+pub mod Putting
+pub mod Spelling

@@ -1,0 +1,2 @@
+pub mod StepTables
+pub mod Published
