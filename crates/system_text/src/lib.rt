@@ -2,20 +2,17 @@
 ghost use lib.ListN.{length};
 ghost use Rattle.system_text.specs.Within.{Within};
 
-mod constraints;
-mod fields;
 mod lists;
-mod matrices;
 mod sizes;
 
-pub use constraints::ConstraintsRead;
-pub use constraints::bays;
-pub use constraints::read_constraints;
-pub use fields::ListRead;
-pub use fields::numbers_field;
-pub use fields::small_numbers_field;
+pub use constraint_text::ConstraintsRead;
+pub use constraint_text::bays;
+pub use constraint_text::read_constraints;
+pub use field_reads::ListRead;
+pub use field_reads::numbers_field;
+pub use field_reads::small_numbers_field;
 use lists::lists_into;
-use matrices::matrices_into;
+use matrix_text::matrices_into;
 use sdc2d::Sizes;
 use sizes::read_sizes;
 

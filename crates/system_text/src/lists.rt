@@ -2,8 +2,8 @@
 ghost use Prim.Native.Nat.{_≤_};
 ghost use lib.ListN.{length};
 ghost use Rattle.system_text.specs.Within.{ListsWithin};
-use crate::fields::floats_field;
-use crate::fields::small_numbers_field;
+use field_reads::floats_field;
+use field_reads::small_numbers_field;
 
 // Whether all four could be read, and how many items each has.
 pub(crate) struct Lists {

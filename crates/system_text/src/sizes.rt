@@ -1,10 +1,10 @@
 // The numbers of a system, and its temperature.
-use crate::fields::is_number;
-use crate::fields::number_in;
 use case_fields::float_field;
 use case_fields::number_field;
 use case_text::FloatValue;
 use case_text::Number;
+use field_reads::is_number;
+use field_reads::number_in;
 use sdc2d::Sizes;
 
 // Whether all sizes could be read, and the sizes.
