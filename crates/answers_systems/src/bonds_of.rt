@@ -95,11 +95,11 @@ fn put_bay_row(
     requires { ⌜ bay < length (now scaffold) ⌝ }
 {
     let strands = z.strands;
-    let glue = glue_tables::scaffold_glue_at(scaffold, bay);
+    let glue = glue_readers::scaffold_glue_at(scaffold, bay);
     let mut next = at;
     let mut strand = 1;
     while strand < strands {
-        let own = glue_tables::strand_glues_of(strand_glues, strand);
+        let own = glue_readers::strand_glues_of(strand_glues, strand);
         let x = bonds::bond_with_scaffold(delta_g, entropy, z.glues, z.kelvin, glue, own);
         next = put_next_float(out, next, place(bay, 0, strand), x);
         strand += 1;

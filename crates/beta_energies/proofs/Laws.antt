@@ -8,7 +8,7 @@ use lib.Ieee.{Float, nan, inf, fin, binary64, sub, lt}
 use lib.ListN.{getD}
 use Rattle.units.specs.declared.StrandGlues.{StrandGlues}
 use Rattle.sdc2d.specs.declared.sizes.Sizes.{Sizes}
-use Rattle.glue_tables.specs.Tables.{gluesOf, scaffoldGlue}
+use Rattle.glue_readers.specs.Tables.{gluesOf, scaffoldGlue}
 use Rattle.bonds.specs.Bonds.{bondWe, bondNs, bondWithScaffold}
 use Rattle.beta_energies.specs.Energies.{bayEnergy, emptyPair, pairBond, edgeEnergy, noEnergy}
 

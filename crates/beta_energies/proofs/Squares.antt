@@ -4,7 +4,7 @@ use mathlib.Core.List.{List}
 use native.Mathlib.Omega.{arith}
 use lib.Ieee.{Float}
 use lib.ListN.{getD}
-use Rattle.glue_tables.specs.Tables.{Square}
+use Rattle.glue_readers.specs.Tables.{Square}
 use Rattle.bonds.specs.Readable.{Readable}
 
 module _ {strands glues : ℕ} {strandGlues : List ℕ} {deltaG entropy : List Float} (r : Readable strands glues strandGlues deltaG entropy) where

@@ -7,7 +7,7 @@ use lib.Ieee.{Float, nan, inf, fin, binary64, sub}
 use lib.ListN.{getD}
 use Rattle.units.specs.Decimals.{plus}
 use Rattle.sdc2d.specs.declared.sizes.Sizes.{Sizes}
-use Rattle.glue_tables.specs.Tables.{gluesOf, scaffoldGlue}
+use Rattle.glue_readers.specs.Tables.{gluesOf, scaffoldGlue}
 use Rattle.bonds.specs.Bonds.{bondWe, bondNs, bondWithScaffold}
 
 -- 0.0

@@ -5,7 +5,7 @@ use mathlib.Core.List.{List}
 use lib.Ieee.{Float}
 use lib.ListN.{length}
 use Rattle.sdc2d.specs.declared.sizes.Sizes.{Sizes}
-use Rattle.glue_tables.specs.Tables.{scaffoldGlue}
+use Rattle.glue_readers.specs.Tables.{scaffoldGlue}
 
 -- the bay lies on the grid, its glue and the strand are below their counts, and each strand has a logarithm
 pub record OnBay (z : Sizes) (scaffold : List ℕ) (logs : List Float) (bay strand : ℕ) : Type 0 where

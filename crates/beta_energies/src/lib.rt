@@ -24,8 +24,8 @@ pub fn site_beta_energy(
     if strand == 0 {
         return 0.0;
     }
-    let own = glue_tables::strand_glues_of(strand_glues, strand);
-    let glue = glue_tables::scaffold_glue_at(scaffold, bay);
+    let own = glue_readers::strand_glues_of(strand_glues, strand);
+    let glue = glue_readers::scaffold_glue_at(scaffold, bay);
     bonds::bond_with_scaffold(delta_g, entropy, z.glues, z.kelvin, glue, own) - logs[strand]
 }
 
@@ -53,8 +53,8 @@ pub fn edge_beta_between(
     if empty_pair(first, second) {
         return 0.0;
     }
-    let a = glue_tables::strand_glues_of(strand_glues, first);
-    let b = glue_tables::strand_glues_of(strand_glues, second);
+    let a = glue_readers::strand_glues_of(strand_glues, first);
+    let b = glue_readers::strand_glues_of(strand_glues, second);
     if north_south {
         return bonds::bond_ns(delta_g, entropy, z.glues, z.kelvin, a, b);
     }

@@ -7,7 +7,7 @@ use lib.Ieee.{Float, ne}
 use Rattle.units.specs.declared.BaseEnergy.{BaseEnergy}
 use Rattle.units.specs.Decimals.{plus}
 use Rattle.units.specs.Glues.{bottomOf}
-use Rattle.glue_tables.specs.Tables.{cellOf, gluesOf}
+use Rattle.glue_readers.specs.Tables.{cellOf, gluesOf}
 
 -- a cell has a ΔG or a ΔS different from zero; minus zero is zero
 abbrev pub isBond : BaseEnergy → Bool

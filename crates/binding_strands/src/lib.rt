@@ -29,8 +29,8 @@ fn binds(
     requires { ⌜ (glue < glues) × (strand < strands) ⌝ }
     ensures { λ r. ⌜ r ≡ binds (now («strand_glues» .entry)) (now («delta_g» .entry)) (now (entropy .entry)) glues glue strand ⌝ }
 {
-    let own = glue_tables::strand_glues_of(strand_glues, strand);
-    is_bond(glue_tables::cell(delta_g, entropy, glues, glue, own.glues[4]))
+    let own = glue_readers::strand_glues_of(strand_glues, strand);
+    is_bond(glue_readers::cell(delta_g, entropy, glues, glue, own.glues[4]))
 }
 
 // Whether a strand may lie on an unseeded bay with this glue.

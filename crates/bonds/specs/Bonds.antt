@@ -6,7 +6,7 @@ use Rattle.units.specs.declared.BaseEnergy.{BaseEnergy}
 use Rattle.units.specs.declared.StrandGlues.{StrandGlues}
 use Rattle.units.specs.Glues.{northOf, eastOf, southOf, westOf, bottomOf}
 use Rattle.units.specs.Kelvin.{energyAt, timesBeta}
-use Rattle.glue_tables.specs.Tables.{cellOf}
+use Rattle.glue_readers.specs.Tables.{cellOf}
 
 -- (ΔG − (T − 310.15)·ΔS) / (R·T)
 abbrev pub bondOf : BaseEnergy → Float → Float

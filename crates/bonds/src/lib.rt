@@ -2,9 +2,9 @@
 ghost use mathlib.Core.Path.{_≡_};
 ghost use Rattle.units.specs.Glues.{northOf, eastOf, southOf, westOf, bottomOf};
 ghost use Rattle.units.specs.Kelvin.{energyAt};
-ghost use Rattle.glue_tables.specs.Tables.{Square};
+ghost use Rattle.glue_readers.specs.Tables.{Square};
 ghost use Rattle.bonds.specs.Bonds.{bondOf, bondWe, bondNs, bondWithScaffold};
-use glue_tables::cell;
+use glue_readers::cell;
 use units::BaseEnergy;
 use units::StrandGlues;
 

@@ -8,7 +8,7 @@ use lib.Ieee.{Float}
 use borrow.Author.Tests.{lt-ltb, eqb-true}
 use Rattle.sets.specs.Set.{word}
 use Rattle.sets.proofs.Words.{word-same}
-use Rattle.glue_tables.specs.Tables.{scaffoldGlue}
+use Rattle.glue_readers.specs.Tables.{scaffoldGlue}
 use Rattle.sdc2d.specs.declared.sizes.Sizes.{Sizes}
 use Rattle.legal_at.specs.declared.seeds.Seed.{Seed}
 use Rattle.legal_at.specs.declared.seeds.Seed.the-variants.{Unseeded, Seeded}

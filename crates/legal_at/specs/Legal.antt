@@ -5,7 +5,7 @@ use mathlib.Core.List.{List, [], _∷_}
 use lib.Dec.{eqb, ltb}
 use lib.Ieee.{Float}
 use Rattle.sets.specs.Set.{word}
-use Rattle.glue_tables.specs.Tables.{scaffoldGlue}
+use Rattle.glue_readers.specs.Tables.{scaffoldGlue}
 use Rattle.bay_lists.specs.Lists.{Constraints, listOf, listAllows}
 use Rattle.binding_strands.specs.Binding.{mayLie}
 use Rattle.sdc2d.specs.declared.sizes.Sizes.{Sizes}

@@ -30,7 +30,7 @@ fn base_allowed_tiles_at(
     match seed_at(z.cols, seeds, bay) {
         Seed::Seeded(strand) => sets::only(strand),
         Seed::Unseeded => {
-            let glue = glue_tables::scaffold_glue_at(scaffold, bay);
+            let glue = glue_readers::scaffold_glue_at(scaffold, bay);
             friends_btm(z.strands, z.glues, strand_glues, delta_g, entropy, glue)
         }
     }

@@ -8,7 +8,7 @@ use lib.Dec.{ltb}
 use lib.Ieee.{Float}
 use lib.ListN.{length}
 use Rattle.sdc2d.specs.declared.sizes.Sizes.{Sizes}
-use Rattle.glue_tables.specs.Tables.{scaffoldGlue}
+use Rattle.glue_readers.specs.Tables.{scaffoldGlue}
 use Rattle.beta_energies.specs.Energies.{nothing, bayEnergy, edgeEnergy}
 use Rattle.scan_order.specs.Scan.{bayAt}
 use Rattle.ledger_rows.specs.Blocks.{tab}

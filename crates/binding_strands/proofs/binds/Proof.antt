@@ -7,7 +7,7 @@ use denote.Ref.{now}
 use borrow.Author.Needs.{needs}
 use Rattle.units.specs.declared.StrandGlues.{StrandGlues}
 use Rattle.units.specs.Glues.{bottomOf}
-use Rattle.glue_tables.specs.Tables.{cellOf, gluesOf}
+use Rattle.glue_readers.specs.Tables.{cellOf, gluesOf}
 use Rattle.binding_strands.specs.Binding.{isBond}
 use Rattle.binding_strands.proofs.binds.Statement.{statement}
 use Rattle.binding_strands.proofs.binds.Tie as tie

@@ -2,7 +2,7 @@
 ghost use mathlib.Core.Path.{_≡_};
 ghost use Prim.Native.Nat.{_+_, _*_, _≤_, _<_};
 ghost use lib.ListN.{length};
-ghost use Rattle.glue_tables.specs.Tables.{Square, cellOf, gluesOf, scaffoldGlue};
+ghost use Rattle.glue_readers.specs.Tables.{Square, cellOf, gluesOf, scaffoldGlue};
 use units::BaseEnergy;
 use units::StrandGlues;
 

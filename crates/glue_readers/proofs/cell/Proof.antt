@@ -1,4 +1,4 @@
--- `glue_tables::cell` meets its contract: row a, place b lies within a square. Assumes nothing.
+-- `glue_readers::cell` meets its contract: row a, place b lies within a square. Assumes nothing.
 use Prim.Native.Nat.{ℕ, _+_, _*_, _≤_, _<_}
 use native.Mathlib.Nat.{mul-le-mul}
 use native.Mathlib.Omega.{arith}
@@ -6,8 +6,8 @@ use lib.Arith.{digits-lt}
 use lib.ListN.{length}
 use denote.Ref.{now}
 use borrow.Author.Needs.{needs}
-use Rattle.glue_tables.proofs.cell.Statement.{statement}
-use Rattle.glue_tables.proofs.cell.Tie as tie
+use Rattle.glue_readers.proofs.cell.Statement.{statement}
+use Rattle.glue_readers.proofs.cell.Tie as tie
 
 -- the cell's place is below the glues squared, and those are few
 inside : (c : tie.Start) → let x = c .args in (x .a * x .glues + x .b < x .glues * x .glues) × (x .glues * x .glues ≤ 65536)
