@@ -11,7 +11,7 @@ use Rattle.units.specs.Refusals.{passes, refuses}
 use Rattle.utils.specs.Single.{singleEnergy}
 use Rattle.entries.specs.Entries.{offsetsFrom, areFlags, sameBytes}
 use Rattle.sdc_common.specs.Stars.{beforeStars}
-use Rattle.sdc_common.specs.Bases.{basesFitFrom, findFrom}
+use Rattle.base_list.specs.Bases.{basesFitFrom, findFrom}
 use Rattle.key_values.specs.Values.{Values, values, keysFrom}
 use Rattle.energy_keys.specs.Names.{Names, names}
 use Rattle.energy_keys.specs.Matrices.{matrixTo, deltaG}

@@ -9,7 +9,7 @@ use lib.ListN.{length}
 use borrow.Author.Tests.{leb-true, eqb-true}
 use Rattle.entries.specs.Entries.{offsetsFit, areFlags}
 use Rattle.entries.proofs.Same.{both}
-use Rattle.sdc_common.specs.Bases.{basesFit}
+use Rattle.base_list.specs.Bases.{basesFit}
 use Rattle.key_values.specs.Values.{Values}
 use Rattle.energy_keys.specs.Names.{Names}
 use Rattle.energy_keys.specs.Matrices.{sideOf}

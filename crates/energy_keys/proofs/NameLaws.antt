@@ -10,7 +10,7 @@ use borrow.Author.Tests.{lt-ltb, ltb-true}
 use Rattle.entries.specs.Entries.{entryOf}
 use Rattle.entries.proofs.Same.{both}
 use Rattle.sdc_common.specs.Stars.{isFrom}
-use Rattle.sdc_common.specs.Bases.{glueOf}
+use Rattle.base_list.specs.Bases.{glueOf}
 use Rattle.energy_keys.specs.declared.names.RefOrPair.{RefOrPair}
 use Rattle.energy_keys.specs.declared.names.RefOrPair.the-variants.{Ref, Pair}
 use Rattle.energy_keys.specs.declared.names.Joined.the-variants.{Glues, Nothing}

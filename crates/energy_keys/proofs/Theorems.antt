@@ -11,7 +11,7 @@ use Rattle.units.specs.declared.BaseEnergy.{BaseEnergy}
 use Rattle.units.specs.Decimals.{plus}
 use Rattle.entries.specs.Entries.{entryOf}
 use Rattle.sdc_common.specs.Stars.{baseOf, isFrom}
-use Rattle.sdc_common.specs.Bases.{glueOf}
+use Rattle.base_list.specs.Bases.{glueOf}
 use Rattle.energy_keys.specs.declared.names.RefOrPair.{RefOrPair}
 use Rattle.energy_keys.specs.declared.names.RefOrPair.the-variants.{Ref, Pair}
 use Rattle.energy_keys.specs.declared.names.Joined.the-variants.{Glues, Nothing}

@@ -7,7 +7,7 @@ use lib.Dec.{eqb, leb}
 use lib.ListN.{length}
 use Rattle.units.specs.Refusals.{Verdict, refuseIf, _▷_}
 use Rattle.entries.specs.Entries.{offsetsFit, areFlags}
-use Rattle.sdc_common.specs.Bases.{basesFit}
+use Rattle.base_list.specs.Bases.{basesFit}
 use Rattle.key_values.specs.Values.{Values, valuesVerdict}
 use Rattle.energy_keys.specs.Names.{Names}
 use Rattle.energy_keys.specs.Matrices.{sideOf}

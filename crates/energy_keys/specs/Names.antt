@@ -6,7 +6,7 @@ use lib.Dec.{eqb, ltb}
 use lib.ListN.{getD}
 use Rattle.entries.specs.Entries.{entryOf}
 use Rattle.sdc_common.specs.Stars.{baseOf}
-use Rattle.sdc_common.specs.Bases.{findBase, glueOf}
+use Rattle.base_list.specs.Bases.{findBase, glueOf}
 use Rattle.energy_keys.specs.declared.names.RefOrPair.{RefOrPair}
 use Rattle.energy_keys.specs.declared.names.RefOrPair.the-variants.{Ref, Pair}
 use Rattle.energy_keys.specs.declared.names.Joined.{Joined}

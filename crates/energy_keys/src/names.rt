@@ -4,7 +4,7 @@ ghost use mathlib.Core.Bool.{true};
 ghost use Prim.Native.Nat.{_+_, _<_, _≤_};
 ghost use lib.ListN.{length};
 ghost use Rattle.entries.specs.Entries.{offsetsFit};
-ghost use Rattle.sdc_common.specs.Bases.{basesFit};
+ghost use Rattle.base_list.specs.Bases.{basesFit};
 ghost use Rattle.energy_keys.specs.Names.{names, namesAt, namesFit, baseNumber, joinedByOne, joinedByTwo, joinedBy, keyJoined};
 use entries::entry;
 use sdc_common::find_base;

@@ -1,6 +1,6 @@
 -- What the call's contract asks, from the tests on the input and from what registering leaves. Assumes nothing.
 use Prim.Native.Nat.{ℕ, _+_, _*_}
-use mathlib.Core.Path.{_≡_, refl, ap, sym, _∙_}
+use mathlib.Core.Path.{_≡_, refl}
 use mathlib.Core.Bool.{not}
 use mathlib.Core.List.{List, [], _∷_}
 use lib.Dec.{ltb}
@@ -10,15 +10,17 @@ use Rattle.units.specs.declared.Check.{Check}
 use Rattle.units.specs.declared.Check.the-variants.{Passed, Refused as Check·Refused}
 use Rattle.units.specs.declared.CountAnswer.{CountAnswer}
 use Rattle.units.specs.declared.CountAnswer.the-variants.{Refused}
-use Rattle.units.specs.Refusals.{Verdict, passes, _▷_, check, Prints}
+use Rattle.units.specs.Refusals.{passes, check, Prints}
 use Rattle.units.specs.Answers.{countRefusal}
 use Rattle.units.proofs.Answers.{a-count, refused, given}
 use Rattle.units.proofs.Verdicts.{Tabled, tabled-if, tabled-then, passed, refused-first, refused-keeps}
 use Rattle.glue_names.specs.Names.{Names}
-use Rattle.glue_names.specs.Starred.{firstStarred, starsVerdict}
-use Rattle.registering.specs.Register.{Request, request, firstBay, bayCount, firstsOf, isSized, isReadable, sizesVerdict, namesVerdict, countVerdict, registeredVerdict, inputVerdict, registerVerdict, registerAnswer, gluesAfter, scaffoldAfter, basesAfter}
+use Rattle.scaffold_stars.specs.Starred.{firstStarred, starsVerdict}
+use Rattle.register_input.specs.Input.{Request, request, firstBay, bayCount, isSized, isReadable, sizesVerdict, namesVerdict, inputVerdict}
+use Rattle.registering.specs.Register.{firstsOf, registeredVerdict, registerVerdict, registerAnswer, gluesAfter, scaffoldAfter, basesAfter}
+use Rattle.new_bases.specs.Bases.{countVerdict}
 use Rattle.registering.specs.Steps.{Registered}
-use Rattle.registering.proofs.Passed.{bays}
+use Rattle.register_input.proofs.Passed.{bays}
 
 -- every refusal has the values of its row
 input-tabled : (q : Request) → Tabled (inputVerdict q)

@@ -1,14 +1,3 @@
-pub mod Passed
-pub mod Front
-pub mod Firsts
-pub mod Places
-pub mod Brought
-pub mod Numbers
-pub mod Later
-pub mod Tables
-pub mod Collecting
-pub mod TooMany
 pub mod Registering
 pub mod Answered
 pub mod Unique
-pub mod Worked

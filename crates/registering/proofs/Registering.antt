@@ -1,5 +1,5 @@
 -- From the steps to what registering leaves, for each way out. Assumes nothing.
-use Prim.Native.Nat.{ℕ, _+_, _*_, _-_, _≤_}
+use Prim.Native.Nat.{ℕ, _+_, _*_, _-_}
 use mathlib.Core.Path.{_≡_, refl, ap, ap₂, sym, _∙_, subst}
 use mathlib.Core.List.{List}
 use native.Mathlib.Omega.{arith}
@@ -14,13 +14,16 @@ use Rattle.units.specs.Answers.{countAnswer}
 use Rattle.units.proofs.Answers.{a-count, refused}
 use Rattle.units.proofs.Verdicts.{passed, refused-keeps}
 use Rattle.glue_names.specs.Names.{Names, Readable}
-use Rattle.registering.specs.Bases.{basesOf, basesTable}
-use Rattle.glue_names.specs.Glues.{strandTable, scaffoldTable, Searchable}
-use Rattle.glue_names.specs.Starred.{starsVerdict}
-use Rattle.registering.specs.Register.{firstBay, countVerdict, firstsOf, registeredVerdict, registeredStrands, registeredScaffold, registeredBases}
-use Rattle.registering.specs.Steps.{Fitting, Holds, Collected, Registered}
-use Rattle.registering.proofs.Firsts.{length-bases}
-use Rattle.registering.proofs.Collecting.{goes-on, few-pass, searchable}
+use Rattle.new_bases.specs.Bases.{basesOf, countVerdict}
+use Rattle.glue_tables.specs.Tables.{strandTable, scaffoldTable}
+use Rattle.glue_names.specs.Glues.{Searchable}
+use Rattle.scaffold_stars.specs.Starred.{starsVerdict}
+use Rattle.register_input.specs.Input.{firstBay, Fitting}
+use Rattle.registering.specs.Register.{firstsOf, registeredVerdict, registeredStrands, registeredScaffold, registeredBases}
+use Rattle.new_bases.specs.Steps.{Holds, Collected}
+use Rattle.registering.specs.Steps.{Registered}
+use Rattle.new_bases.proofs.Firsts.{length-bases}
+use Rattle.new_bases.proofs.Collecting.{goes-on, few-pass, searchable}
 
 -- a first refusal is the answer, and nothing is written
 refused-through : (v w : Verdict) (m : ℕ) {q : Refusal} → countAnswer v m ≡ Refused q → Refused q ≡ countAnswer (v ▷ w) m

@@ -1,8 +1,8 @@
 -- No second answer fits the contract of the call, and no second content of a lent table. Assumes nothing.
 use denote.Ref.{now}
 use Rattle.units.proofs.Unique.{OneAnswer, OneExit, one-answer}
-use Rattle.registering.proofs.registration.register.Kinds as kinds
-use Rattle.registering.proofs.registration.register.Reads as reads
+use Rattle.registering.proofs.register.Kinds as kinds
+use Rattle.registering.proofs.register.Reads as reads
 
 pub register : OneAnswer 6 kinds.ps kinds.r reads.Post
 register κs input a b at-a at-b p q = one-answer (p .1 .0) (q .1 .0)

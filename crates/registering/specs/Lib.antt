@@ -1,3 +1,2 @@
-pub mod Bases
 pub mod Register
 pub mod Steps

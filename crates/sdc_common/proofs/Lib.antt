@@ -1,3 +1,1 @@
 pub mod BeforeStars
-pub mod Lists
-pub mod Found

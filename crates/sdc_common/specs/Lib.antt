@@ -1,2 +1,1 @@
 pub mod Stars
-pub mod Bases

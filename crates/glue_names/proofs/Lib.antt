@@ -1,4 +1,0 @@
-pub mod Stores
-pub mod Filling
-pub mod Starring
-pub mod Cells

@@ -1,0 +1,1 @@
+// What the numbers of a registering mean; its theorems are in proofs/.

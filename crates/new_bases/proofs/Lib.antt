@@ -1,0 +1,4 @@
+pub mod Stores
+pub mod Firsts
+pub mod Front
+pub mod Collecting
