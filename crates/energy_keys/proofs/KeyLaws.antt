@@ -10,10 +10,12 @@ use Rattle.units.specs.declared.Check.{Check}
 use Rattle.units.specs.declared.Check.the-variants.{Passed, Refused}
 use Rattle.units.specs.Refusals.{passes, check, ifPasses, Prints}
 use Rattle.units.proofs.Verdicts.{Tabled, tabled-if, tabled-then, printed, refused-keeps, no-fault, first-passes, rest-passes}
-use Rattle.key_values.specs.Values.{Values, valuesVerdict}
-use Rattle.key_values.proofs.ValueLaws.{values-tabled}
-use Rattle.energy_keys.specs.Names.{Names}
-use Rattle.energy_keys.specs.Keys.{sizesFit, sizesVerdict, formsFit, formsVerdict, lentVerdict, keysVerdict, Lent}
+use Rattle.key_values.specs.Values.{Values}
+use Rattle.key_refusals.specs.Refusals.{valuesVerdict}
+use Rattle.key_refusals.proofs.RefusalLaws.{values-tabled}
+use Rattle.key_names.specs.Names.{Names}
+use Rattle.keys_lent.specs.Lent.{sizesFit, sizesVerdict, formsFit, formsVerdict, lentVerdict, Lent}
+use Rattle.energy_keys.specs.Keys.{keysVerdict}
 
 module _ (n : Names) (v : Values) (deltaG entropy : ℕ) where
   keys-tabled : Tabled (keysVerdict n v deltaG entropy)

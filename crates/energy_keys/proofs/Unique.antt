@@ -1,8 +1,8 @@
 -- No second answer, and no other matrix, fits the contract of the public call. Assumes nothing.
 use denote.Ref.{now}
 use Rattle.units.proofs.Unique.{OneAnswer, OneExit, one-answer}
-use Rattle.energy_keys.proofs.keys.energy_keys.Kinds as kinds
-use Rattle.energy_keys.proofs.keys.energy_keys.Reads as reads
+use Rattle.energy_keys.proofs.energy_keys.Kinds as kinds
+use Rattle.energy_keys.proofs.energy_keys.Reads as reads
 
 pub energy-keys : OneAnswer 10 kinds.ps kinds.r reads.Post
 energy-keys κs input a b at-a at-b p q = one-answer (p .1 .0) (q .1 .0)

@@ -1,4 +1,1 @@
-pub mod Names
-pub mod Matrices
 pub mod Keys
-pub mod Cells

@@ -1,14 +1,12 @@
--- What a key gives, two floats or a sequence: how it is read, what is refused of it, and the energy that it comes to. Assumes nothing.
-use Prim.Native.Nat.{ℕ, zero, suc, _+_}
-use mathlib.Core.Bool.{Bool, true, cond, not, _&&_}
-use mathlib.Core.List.{List, [], _∷_}
+-- What a key gives, two floats or a sequence: how it is read, and the energy that it comes to. Assumes nothing.
+use Prim.Native.Nat.{ℕ, _+_}
+use mathlib.Core.Bool.{Bool, true, cond, _&&_}
+use mathlib.Core.List.{List}
 use lib.Dec.{eqb, leb}
 use lib.Ieee.{Float, nan}
-use lib.ListN.{length, getD}
+use lib.ListN.{getD}
 use Rattle.units.specs.declared.BaseEnergy.{BaseEnergy}
-use Rattle.units.specs.Finite.{finite}
-use Rattle.units.specs.Refusals.{Verdict, passes, refuseIf, _▷_}
-use Rattle.utils.specs.Single.{sequenceVerdict, singleEnergy}
+use Rattle.utils.specs.Single.{singleEnergy}
 use Rattle.entries.specs.Entries.{part}
 use Rattle.key_values.specs.declared.GsOrSeq.{GsOrSeq}
 use Rattle.key_values.specs.declared.GsOrSeq.the-variants.{Gs, Seq}
@@ -35,32 +33,11 @@ abbrev pub valueFits : (end : ℕ) → GsOrSeq → Bool
 valueFits end (Gs dg ds) = true
 valueFits end (Seq from to) = leb from to && leb to end
 
--- 3, with the key's place: ΔG or ΔS is not finite
-abbrev pub numbersVerdict : (key : ℕ) → (dg ds : Float) → Verdict
-numbersVerdict key dg ds = refuseIf (not (finite dg && finite ds)) 3 (key ∷ [])
-
--- what is refused of a value; for a sequence the key's place is 11's sequence
-abbrev pub valueVerdict : (key : ℕ) → (sequences : List ℕ) → GsOrSeq → Verdict
-valueVerdict key sequences (Gs dg ds) = numbersVerdict key dg ds
-valueVerdict key sequences (Seq from to) = sequenceVerdict key (part sequences from to)
-
 -- the energy that a value comes to: the two floats, or that of the sequence with its start term
 abbrev pub gsOrSeqToGs : (sequences : List ℕ) → GsOrSeq → BaseEnergy
 gsOrSeqToGs sequences (Gs dg ds) = record { dg = dg; ds = ds }
 gsOrSeqToGs sequences (Seq from to) = singleEnergy (part sequences from to)
 
 -- the same of key k
-abbrev pub keyVerdict : Values → ℕ → Verdict
-keyVerdict v k = valueVerdict k (v .sequences) (valueAt (v .kinds) (v .numbers) (v .sequenceOffsets) k)
-
 abbrev pub keyEnergy : Values → ℕ → BaseEnergy
 keyEnergy v k = gsOrSeqToGs (v .sequences) (valueAt (v .kinds) (v .numbers) (v .sequenceOffsets) k)
-
--- the n keys from key k on, in list order
-unfoldable pub keysFrom : Values → (k n : ℕ) → Verdict
-keysFrom v k zero = passes
-keysFrom v k (suc n) = keyVerdict v k ▷ keysFrom v (suc k) n
-
--- every key, in list order
-abbrev pub valuesVerdict : Values → Verdict
-valuesVerdict v = keysFrom v 0 (length (v .kinds))

@@ -1,16 +1,11 @@
-// What a key gives: two floats or a sequence.
+// What a key gives, two floats or a sequence, and the energy that it comes to.
 ghost use mathlib.Core.Path.{_≡_};
 ghost use mathlib.Core.Bool.{true};
 ghost use Prim.Native.Nat.{_+_, _<_};
 ghost use lib.ListN.{length};
-ghost use Rattle.units.specs.Refusals.{check};
 ghost use Rattle.entries.specs.Entries.{offsetsFit};
-ghost use Rattle.key_values.specs.Values.{values, valueAt, valueFits, numbersVerdict, valueVerdict, gsOrSeqToGs, keyVerdict, keyEnergy, valuesVerdict};
+ghost use Rattle.key_values.specs.Values.{values, valueAt, valueFits, gsOrSeqToGs, keyEnergy};
 use units::BaseEnergy;
-use units::Check;
-use units::Refusal;
-use units::is_finite;
-use utils::check_single;
 use utils::single_energy;
 
 // ΔG and ΔS, or the offsets of a sequence in the sequences' text.
@@ -20,7 +15,7 @@ pub enum GsOrSeq {
 }
 
 // What key k gives.
-fn value_at(kinds: &[u8], numbers: &[f64], sequence_offsets: &[usize], k: usize) -> GsOrSeq
+pub fn value_at(kinds: &[u8], numbers: &[f64], sequence_offsets: &[usize], k: usize) -> GsOrSeq
     requires { ⌜ k < length (now kinds) ⌝ }
     requires { ⌜ length (now numbers) ≡ length (now kinds) + length (now kinds) ⌝ }
     requires { ⌜ length (now «sequence_offsets») ≡ length (now kinds) + 1 ⌝ }
@@ -32,33 +27,6 @@ fn value_at(kinds: &[u8], numbers: &[f64], sequence_offsets: &[usize], k: usize)
     GsOrSeq::Gs(numbers[k + k], numbers[k + k + 1])
 }
 
-// Refusal 3 with the key's place where a number is not finite.
-fn check_numbers(dg: f64, ds: f64, key: usize) -> Check
-    ensures { λ r. ⌜ r ≡ check (numbersVerdict key dg ds) ⌝ }
-{
-    if is_finite(dg) {
-        if is_finite(ds) {
-            return Check::Passed;
-        }
-    }
-    Check::Refused(Refusal {
-        number: 3,
-        first: key,
-        second: 0,
-    })
-}
-
-// What is refused of the value of a key.
-fn check_value(value: GsOrSeq, sequences: &[u8], key: usize) -> Check
-    requires { ⌜ valueFits (length (now sequences)) value ≡ true ⌝ }
-    ensures { λ r. ⌜ r ≡ check (valueVerdict key (now (sequences .entry)) value) ⌝ }
-{
-    match value {
-        GsOrSeq::Gs(dg, ds) => check_numbers(dg, ds, key),
-        GsOrSeq::Seq(from, to) => check_single(&sequences[from..to], key),
-    }
-}
-
 // The energy that a value comes to.
 fn gsorseq_to_gs(value: GsOrSeq, sequences: &[u8]) -> BaseEnergy
     requires { ⌜ valueFits (length (now sequences)) value ≡ true ⌝ }
@@ -68,23 +36,6 @@ fn gsorseq_to_gs(value: GsOrSeq, sequences: &[u8]) -> BaseEnergy
         GsOrSeq::Gs(dg, ds) => BaseEnergy { dg, ds },
         GsOrSeq::Seq(from, to) => single_energy(&sequences[from..to]),
     }
-}
-
-// What is refused of key k.
-fn check_key(
-    kinds: &[u8],
-    numbers: &[f64],
-    sequences: &[u8],
-    sequence_offsets: &[usize],
-    k: usize,
-) -> Check
-    requires { ⌜ k < length (now kinds) ⌝ }
-    requires { ⌜ length (now numbers) ≡ length (now kinds) + length (now kinds) ⌝ }
-    requires { ⌜ length (now «sequence_offsets») ≡ length (now kinds) + 1 ⌝ }
-    requires { ⌜ offsetsFit (length (now sequences)) (now «sequence_offsets») ≡ true ⌝ }
-    ensures { λ r. ⌜ r ≡ check (keyVerdict (values (now (kinds .entry)) (now (numbers .entry)) (now (sequences .entry)) (now («sequence_offsets» .entry))) k) ⌝ }
-{
-    check_value(value_at(kinds, numbers, sequence_offsets, k), sequences, k)
 }
 
 // The energy of key k.
@@ -102,27 +53,4 @@ pub fn key_energy(
     ensures { λ r. ⌜ r ≡ keyEnergy (values (now (kinds .entry)) (now (numbers .entry)) (now (sequences .entry)) (now («sequence_offsets» .entry))) k ⌝ }
 {
     gsorseq_to_gs(value_at(kinds, numbers, sequence_offsets, k), sequences)
-}
-
-// What is refused of the values of all keys, in list order.
-pub fn check_values(
-    kinds: &[u8],
-    numbers: &[f64],
-    sequences: &[u8],
-    sequence_offsets: &[usize],
-) -> Check
-    requires { ⌜ length (now numbers) ≡ length (now kinds) + length (now kinds) ⌝ }
-    requires { ⌜ length (now «sequence_offsets») ≡ length (now kinds) + 1 ⌝ }
-    requires { ⌜ offsetsFit (length (now sequences)) (now «sequence_offsets») ≡ true ⌝ }
-    ensures { λ r. ⌜ r ≡ check (valuesVerdict (values (now (kinds .entry)) (now (numbers .entry)) (now (sequences .entry)) (now («sequence_offsets» .entry)))) ⌝ }
-{
-    let mut k = 0;
-    while k < kinds.len() {
-        match check_key(kinds, numbers, sequences, sequence_offsets, k) {
-            Check::Refused(r) => return Check::Refused(r),
-            Check::Passed => (),
-        }
-        k += 1;
-    }
-    Check::Passed
 }

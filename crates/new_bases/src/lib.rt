@@ -73,12 +73,7 @@ fn get_or_generate(
 }
 
 // The count of bases that the entries bring, and the bases, written into 254 zeros.
-pub fn collect(
-    text: &[u8],
-    offsets: &[usize],
-    present: &[u8],
-    bases: &mut [usize],
-) -> CountAnswer
+pub fn collect(text: &[u8], offsets: &[usize], present: &[u8], bases: &mut [usize]) -> CountAnswer
     requires { ⌜ Readable (names (now text) (now offsets) (now present)) ⌝ }
     requires { ⌜ now bases ≡ replicate 254 0 ⌝ }
     ensures { λ r. ⌜ Collected (names (now (text .entry)) (now (offsets .entry)) (now (present .entry))) (length (now (present .entry))) (now (bases .exit)) r ⌝ }

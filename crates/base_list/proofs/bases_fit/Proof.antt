@@ -1,4 +1,4 @@
--- `sdc_common::bases::bases_fit` meets its contract. The invariant: the bases that are left decide. Assumes nothing.
+-- `base_list::bases_fit` meets its contract. The invariant: the bases that are left decide. Assumes nothing.
 use Prim.Native.Nat.{_-_, _≤_}
 use mathlib.Core.Path.{_≡_, _∙_, sym}
 use native.Mathlib.Nat.{sub-zero}

@@ -1,4 +1,4 @@
--- `sdc_common::bases::find_base` meets its contract. The invariant: the bases that are left have the answer. Assumes nothing.
+-- `base_list::find_base` meets its contract. The invariant: the bases that are left have the answer. Assumes nothing.
 use Prim.Native.Nat.{_-_, _≤_}
 use mathlib.Core.Path.{_≡_, _∙_, sym}
 use native.Mathlib.Nat.{sub-zero}

@@ -1,4 +1,4 @@
--- `sdc_common::bases::glue_number` meets its contract. Assumes nothing.
+-- `base_list::glue_number` meets its contract. Assumes nothing.
 use mathlib.Core.Path.{sym, _∙_}
 use borrow.Author.Needs.{needs}
 use Rattle.base_list.proofs.glue_number.Statement.{statement}

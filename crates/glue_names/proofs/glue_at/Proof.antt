@@ -1,4 +1,4 @@
--- `glue_names::lookup::glue_at` meets its contract. Assumes nothing.
+-- `glue_names::glue_at` meets its contract. Assumes nothing.
 use mathlib.Core.Path.{_∙_, ap₂}
 use borrow.Author.Needs.{needs}
 use borrow.Author.Tests.{eq-eqb, ne-eqb}

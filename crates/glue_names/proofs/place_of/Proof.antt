@@ -1,4 +1,4 @@
--- `glue_names::lookup::place_of` meets its contract. Assumes nothing.
+-- `glue_names::place_of` meets its contract. Assumes nothing.
 use mathlib.Core.Path.{_∙_, ap}
 use denote.Ref.{now}
 use borrow.Author.Needs.{needs}

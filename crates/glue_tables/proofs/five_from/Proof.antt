@@ -1,4 +1,4 @@
--- `glue_names::tables::five_from` meets its contract. Assumes nothing.
+-- `glue_tables::five_from` meets its contract. Assumes nothing.
 use native.Mathlib.Omega.{arith}
 use borrow.Author.Needs.{needs}
 use Rattle.glue_tables.proofs.five_from.Statement.{statement}

@@ -1,4 +1,4 @@
--- `glue_names::tables::glues_of_strand` meets its contract. Assumes nothing.
+-- `glue_tables::glues_of_strand` meets its contract. Assumes nothing.
 use mathlib.Core.Path.{_∙_, sym}
 use native.Mathlib.Omega.{arith}
 use borrow.Author.Needs.{needs}

@@ -1,4 +1,4 @@
--- `glue_names::tables::put_strand` meets its contract: five stores side by side. Assumes nothing.
+-- `glue_tables::put_strand` meets its contract: five stores side by side. Assumes nothing.
 use native.Mathlib.Omega.{arith}
 use lib.ListN.{length-set}
 use denote.Ref.{now}

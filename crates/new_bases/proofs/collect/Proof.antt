@@ -1,4 +1,4 @@
--- `registering::collect::collect` meets its contract. The invariant: the list holds the bases of the first i entries. Assumes nothing.
+-- `new_bases::collect` meets its contract. The invariant: the list holds the bases of the first i entries. Assumes nothing.
 use Prim.Native.Nat.{_+_, _-_, _≤_}
 use mathlib.Core.Path.{_≡_, refl, _∙_, subst}
 use native.Mathlib.Numerals.{add-one-le}

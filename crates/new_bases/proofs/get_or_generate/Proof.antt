@@ -1,4 +1,4 @@
--- `registering::collect::get_or_generate` meets its contract: entry i is known, or one too many, or written. Assumes nothing.
+-- `new_bases::get_or_generate` meets its contract: entry i is known, or one too many, or written. Assumes nothing.
 use mathlib.Core.Path.{refl, sym, _∙_, ap}
 use native.Mathlib.Nat.{le-of-lt}
 use denote.Ref.{now}

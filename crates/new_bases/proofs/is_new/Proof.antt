@@ -1,4 +1,4 @@
--- `registering::collect::is_new` meets its contract. Assumes nothing.
+-- `new_bases::is_new` meets its contract. Assumes nothing.
 use mathlib.Core.Path.{ap}
 use borrow.Author.Needs.{needs}
 use borrow.Author.Tests.{eq-eqb, ne-eqb}

@@ -1,4 +1,4 @@
--- `registering::collect::put_base` meets its contract: two stores side by side. Assumes nothing.
+-- `new_bases::put_base` meets its contract: two stores side by side. Assumes nothing.
 use native.Mathlib.Omega.{arith}
 use lib.ListN.{length-set}
 use denote.Ref.{now}

@@ -1,4 +1,4 @@
--- `registering::checks::check_input` meets its contract: each way out has the tests that led there. Assumes nothing.
+-- `register_input::check_input` meets its contract: each way out has the tests that led there. Assumes nothing.
 use mathlib.Core.Path.{sym, _∙_}
 use borrow.Author.Needs.{needs}
 use borrow.Author.Tests.{not-true, not-false}

@@ -1,4 +1,4 @@
--- `registering::checks::in_range` meets its contract. Assumes nothing.
+-- `register_input::in_range` meets its contract. Assumes nothing.
 use borrow.Author.Tests.{le-leb, lt-leb}
 use Rattle.register_input.proofs.in_range.Statement.{statement}
 use Rattle.register_input.proofs.in_range.Tie as tie

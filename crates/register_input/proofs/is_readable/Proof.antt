@@ -1,4 +1,4 @@
--- `registering::checks::is_readable` meets its contract. Assumes nothing.
+-- `register_input::is_readable` meets its contract. Assumes nothing.
 use mathlib.Core.Path.{sym, _∙_}
 use borrow.Author.Needs.{needs}
 use Rattle.register_input.proofs.is_readable.Statement.{statement}

@@ -1,4 +1,4 @@
--- `registering::checks::is_sized` meets its contract: sizes in their ranges keep the products small. Assumes nothing.
+-- `register_input::is_sized` meets its contract: sizes in their ranges keep the products small. Assumes nothing.
 use mathlib.Core.Path.{sym, _∙_}
 use native.Mathlib.Omega.{arith}
 use borrow.Author.Needs.{needs}

@@ -1,4 +1,4 @@
--- `registering::checks::names_fit` meets its contract. Assumes nothing.
+-- `register_input::names_fit` meets its contract. Assumes nothing.
 use borrow.Author.Needs.{needs}
 use borrow.Author.Tests.{le-leb, lt-leb, eq-eqb, ne-eqb}
 use Rattle.register_input.proofs.names_fit.Statement.{statement}

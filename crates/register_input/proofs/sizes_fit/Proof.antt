@@ -1,4 +1,4 @@
--- `registering::checks::sizes_fit` meets its contract. Assumes nothing.
+-- `register_input::sizes_fit` meets its contract. Assumes nothing.
 use mathlib.Core.Path.{sym, _∙_}
 use borrow.Author.Needs.{needs}
 use Rattle.register_input.proofs.sizes_fit.Statement.{statement}

@@ -1,4 +1,4 @@
--- `registering::checks::tables_fit` meets its contract. Assumes nothing.
+-- `register_input::tables_fit` meets its contract. Assumes nothing.
 use borrow.Author.Needs.{needs}
 use borrow.Author.Tests.{eq-eqb, ne-eqb}
 use Rattle.register_input.proofs.tables_fit.Statement.{statement}

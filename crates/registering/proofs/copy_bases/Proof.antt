@@ -1,4 +1,4 @@
--- `registering::registration::copy_bases` meets its contract. The invariant: the first i numbers are copied, and the rest is as it was. Assumes nothing.
+-- `registering::copy_bases` meets its contract. The invariant: the first i numbers are copied, and the rest is as it was. Assumes nothing.
 use Prim.Native.Nat.{_+_, _-_, _≤_, _<_}
 use mathlib.Core.Path.{_≡_, refl, _∙_, ap}
 use mathlib.Core.List.{_++_}

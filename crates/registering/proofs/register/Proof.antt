@@ -1,4 +1,4 @@
--- `registering::registration::register` meets its contract: the input is refused, or what is registered is answered. Assumes nothing.
+-- `registering::register` meets its contract: the input is refused, or what is registered is answered. Assumes nothing.
 use denote.Ref.{now}
 use Rattle.glue_names.specs.Names.{Names, names}
 use Rattle.register_input.proofs.Passed.{readable, fitting}

@@ -1,4 +1,4 @@
--- `registering::registration::register_names` meets its contract, by its three ways out. Assumes nothing.
+-- `registering::register_names` meets its contract, by its three ways out. Assumes nothing.
 use denote.Ref.{now}
 use Rattle.glue_names.specs.Names.{Names, names}
 use Rattle.registering.proofs.Registering.{too-many, list-searchable, list-long, starred, done}

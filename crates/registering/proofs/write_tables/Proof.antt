@@ -1,4 +1,4 @@
--- `registering::registration::write_tables` meets its contract. Assumes nothing.
+-- `registering::write_tables` meets its contract. Assumes nothing.
 use native.Mathlib.Omega.{arith}
 use borrow.Author.Needs.{needs}
 use Rattle.registering.proofs.write_tables.Statement.{statement}

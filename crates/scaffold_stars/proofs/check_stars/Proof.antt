@@ -1,4 +1,4 @@
--- `glue_names::stars::check_stars` meets its contract. Assumes nothing.
+-- `scaffold_stars::check_stars` meets its contract. Assumes nothing.
 use borrow.Author.Needs.{needs}
 use borrow.Author.Tests.{lt-ltb, le-ltb}
 use Rattle.scaffold_stars.proofs.check_stars.Statement.{statement}

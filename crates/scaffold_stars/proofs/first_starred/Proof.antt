@@ -1,4 +1,4 @@
--- `glue_names::stars::first_starred` meets its contract. The invariant: the bays that are left have the answer. Assumes nothing.
+-- `scaffold_stars::first_starred` meets its contract. The invariant: the bays that are left have the answer. Assumes nothing.
 use Prim.Native.Nat.{_-_, _≤_}
 use mathlib.Core.Path.{_≡_, _∙_, sym}
 use native.Mathlib.Nat.{sub-zero}

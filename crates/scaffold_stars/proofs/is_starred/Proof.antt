@@ -1,4 +1,4 @@
--- `glue_names::stars::is_starred` meets its contract. Assumes nothing.
+-- `scaffold_stars::is_starred` meets its contract. Assumes nothing.
 use mathlib.Core.Path.{_∙_, ap}
 use borrow.Author.Needs.{needs}
 use borrow.Author.Tests.{eq-eqb, ne-eqb}

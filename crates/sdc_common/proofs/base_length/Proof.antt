@@ -1,4 +1,4 @@
--- `sdc_common::stars::base_length` meets its contract. The invariant: what is left has the answer. Assumes nothing.
+-- `sdc_common::base_length` meets its contract. The invariant: what is left has the answer. Assumes nothing.
 use Prim.Native.Nat.{_≤_}
 use mathlib.Core.Path.{_≡_, _∙_, sym, refl}
 use native.Mathlib.Omega.{arith}

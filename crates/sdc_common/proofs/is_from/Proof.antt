@@ -1,4 +1,4 @@
--- `sdc_common::stars::is_from` meets its contract. Assumes nothing.
+-- `sdc_common::is_from` meets its contract. Assumes nothing.
 use borrow.Author.Needs.{needs}
 use Rattle.sdc_common.proofs.is_from.Statement.{statement}
 use Rattle.sdc_common.proofs.is_from.Tie as tie

@@ -1,4 +1,4 @@
--- `sdc_common::stars::self_and_inverse` meets its contract: the leading part is the base. Assumes nothing.
+-- `sdc_common::self_and_inverse` meets its contract: the leading part is the base. Assumes nothing.
 use borrow.Author.Needs.{needs}
 use mathlib.Core.Path.{ap, sym}
 use lib.ListN.{take}

@@ -1,0 +1,3 @@
+pub mod CellLaws
+pub mod Theorems
+pub mod Examples

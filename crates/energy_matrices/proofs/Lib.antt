@@ -1,0 +1,2 @@
+pub mod MatrixLaws
+pub mod InSide
