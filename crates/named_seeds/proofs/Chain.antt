@@ -1,21 +1,19 @@
 -- What all tests of named seeds come to, test by test, and what they tell where they pass. Assumes nothing.
-use Prim.Native.Nat.{ℕ, zero, suc, _+_, _*_, _/_, _%_, _≤_, _<_}
+use Prim.Native.Nat.{ℕ, _+_, _*_, _<_}
 use mathlib.Core.Path.{_≡_, refl}
-use mathlib.Core.Bool.{true, false, not, _&&_}
-use mathlib.Core.List.{List, [], _∷_}
+use mathlib.Core.Bool.{true, false, not}
+use mathlib.Core.List.{List, []}
 use native.Mathlib.Omega.{arith}
-use lib.Dec.{leb, ltb, eqb}
-use lib.ListN.{length, getD}
-use borrow.Author.Tests.{leb-true, eqb-true}
+use lib.ListN.{getD}
 use Rattle.units.specs.Refusals.{passes, refuses, _▷_}
 use Rattle.units.proofs.Verdicts.{first-passes, rest-passes, Tabled, tabled-if, tabled-then}
-use Rattle.entries.specs.Entries.{offsetsFit}
-use Rattle.entries.proofs.Same.{both}
-use Rattle.tile_names.specs.Names.{Names, namesSized, namesRead, Readable}
-use Rattle.tile_names.proofs.Passed.{sized, first-there, readable}
-use Rattle.tile_names.proofs.Tile.{no-fault-found}
-use Rattle.named_seeds.specs.Seeds.{SeedList, seedCount, seedRow, seedCol, seedName, gridSized, seedsSized, sizesRight, textsRight, seedsSizes, seedsReading, tileCount, seedStrand, seedOffGrid, seedUnknown, seedVerdict, eachSeed, seedsVerdict, seedTriples, SeedsReadable}
-use Rattle.named_seeds.proofs.EachSeed.{all-placed}
+use Rattle.strand_names.specs.Names.{Names, Readable}
+use Rattle.strand_names.proofs.Passed.{sized, no-fault-found}
+use Rattle.seed_sizes.specs.Sizes.{SeedList, seedCount, sizesRight, textsRight, seedsSizes, seedsReading, SeedsReadable}
+use Rattle.seed_checks.specs.Each.{seedRow, seedCol, eachSeed}
+use Rattle.named_seeds.specs.Seeds.{seedsVerdict, seedTriples}
+use Rattle.seed_checks.proofs.EachSeed.{all-placed, each-tabled}
+use Rattle.seed_sizes.proofs.Sized.{fitting, table-size, small-grid, both-readable}
 use Rattle.named_seeds.proofs.Triples.{each-triple}
 
 module _ (rows cols strands : ℕ) (n : Names) (s : SeedList) (table : ℕ) where
@@ -31,63 +29,6 @@ module _ (rows cols strands : ℕ) (n : Names) (s : SeedList) (table : ℕ) wher
       → seedsVerdict rows cols strands n s table ≡ eachSeed rows cols n s 0 (seedCount s)
   unfolding seedsVerdict
   then-each e f = rw (e, f)
-
-  -- every size and count is right
-  pub record Fitting : Type 0 where
-    pub grid : gridSized rows cols ≡ true
-    pub names : namesSized strands (n .text) (n .offsets) (n .present) ≡ true
-    pub seeds : seedsSized (s .places) (s .text) (s .offsets) table ≡ true
-
-  pub fitting : sizesRight rows cols strands n s table ≡ true → Fitting
-  fitting e =
-      let a = both (gridSized rows cols) _ e in
-      let b = both (namesSized strands (n .text) (n .offsets) (n .present)) _ (a .1) in
-      record { grid = a .0; names = b .0; seeds = b .1 }
-
--- where the sizes are right, entry 0 of the names can be looked at
-pub names-there : (rows cols strands : ℕ) (text offsets present places seed-text seed-offsets : List ℕ) (table : ℕ)
-    → (gridSized rows cols && (namesSized strands text offsets present && seedsSized places seed-text seed-offsets table)) ≡ true
-    → (1 < length offsets) × (0 < length present)
-names-there rows cols strands text offsets present places seed-text seed-offsets table e =
-    let rest = both (gridSized rows cols) _ e .1 in
-    let names = both (namesSized strands text offsets present) _ rest .0 in
-    first-there strands text offsets present (sized strands text offsets present names)
-
--- what the sizes and the offsets of seeds tell that passed
-pub seeds-readable : (s : SeedList) (table : ℕ) → seedsSized (s .places) (s .text) (s .offsets) table ≡ true → offsetsFit (length (s .text)) (s .offsets) ≡ true → SeedsReadable s
-unfolding seedsSized
-seeds-readable s table e f =
-    let a = both (eqb (length (s .places) % 2) 0) _ e in
-    let b = both (leb (length (s .text)) 16384) _ (a .1) in
-    let c = both (eqb (length (s .offsets)) (length (s .places) / 2 + 1)) _ (b .1) in
-    let even = eqb-true (length (s .places) % 2) 0 (a .0) in
-    record {
-      pairs = omega arith;
-      counts = eqb-true (length (s .offsets)) (length (s .places) / 2 + 1) (c .0);
-      offsets-fit = f;
-    }
-
-table-size : (s : SeedList) (table : ℕ) → seedsSized (s .places) (s .text) (s .offsets) table ≡ true → table ≡ 3 * seedCount s
-unfolding seedsSized
-table-size s table e =
-    let a = both (eqb (length (s .places) % 2) 0) _ e in
-    let b = both (leb (length (s .text)) 16384) _ (a .1) in
-    let c = both (eqb (length (s .offsets)) (length (s .places) / 2 + 1)) _ (b .1) in
-    eqb-true table (3 * (length (s .places) / 2)) (c .1)
-
-small-grid : (rows cols : ℕ) → gridSized rows cols ≡ true → (rows ≤ 32) × (cols ≤ 32)
-unfolding gridSized
-small-grid rows cols e =
-    let a = both (leb 1 rows && leb rows 32) _ e in
-    (leb-true rows 32 (both (leb 1 rows) _ (a .0) .1), leb-true cols 32 (both (leb 1 cols) _ (a .1) .1))
-
--- names and seeds of right sizes that can be read
-pub both-readable : (rows cols strands : ℕ) (n : Names) (s : SeedList) (table : ℕ) → sizesRight rows cols strands n s table ≡ true → textsRight n s ≡ true
-    → Readable n × SeedsReadable s
-both-readable rows cols strands n s table e f =
-    let t = fitting rows cols strands n s table e in
-    let r = both (namesRead (n .text) (n .offsets) (n .present) (n .numerals)) _ f in
-    (readable n (sized strands (n .text) (n .offsets) (n .present) (t .names)) (r .0), seeds-readable s table (t .seeds) (r .1))
 
 -- what the filling asks, where all tests passed
 pub fillable : (rows cols strands : ℕ) (n : Names) (s : SeedList) (table : ℕ) → seedsVerdict rows cols strands n s table ≡ passes
@@ -107,18 +48,6 @@ fillable rows cols strands n s table e =
     (r .0, (r .1, (below, table-size s table (t .seeds))))
 
 -- each refusal has the values of its row
-seed-tabled : (rows cols : ℕ) (n : Names) (s : SeedList) (k : ℕ) → Tabled (seedVerdict rows cols n s k)
-unfolding seedVerdict
-seed-tabled rows cols n s k =
-    tabled-then (seedOffGrid rows cols s k) (seedUnknown n s k) (tabled-if (not (ltb (seedRow s k) rows && ltb (seedCol s k) cols)) 4 (k ∷ []) refl)
-    (tabled-if (not (ltb (seedStrand n (seedName s k)) (tileCount n))) 18 (k ∷ []) refl)
-
-each-tabled : (rows cols : ℕ) (n : Names) (s : SeedList) (k count : ℕ) → Tabled (eachSeed rows cols n s k count)
-unfolding eachSeed
-each-tabled rows cols n s k zero = tt
-each-tabled rows cols n s k (suc count) =
-    tabled-then (seedVerdict rows cols n s k) (eachSeed rows cols n s (suc k) count) (seed-tabled rows cols n s k) (each-tabled rows cols n s (suc k) count)
-
 pub seeds-tabled : (rows cols strands : ℕ) (n : Names) (s : SeedList) (table : ℕ) → Tabled (seedsVerdict rows cols strands n s table)
 unfolding seedsVerdict
 seeds-tabled rows cols strands n s table =

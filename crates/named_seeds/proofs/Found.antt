@@ -8,9 +8,10 @@ use lib.Dec.{eqb}
 use borrow.Author.Tests.{eqb-true, eqb-false}
 use Rattle.entries.specs.Entries.{sameBytes}
 use Rattle.entries.proofs.Same.{same-equal, equal-same}
-use Rattle.tile_names.specs.Names.{Names, nullName, shownName, Readable}
+use Rattle.strand_names.specs.Names.{Names, nullName, Readable}
+use Rattle.shown_names.specs.Shown.{shownName}
 use Rattle.tile_names.proofs.Shown.{null-shows-null}
-use Rattle.named_seeds.specs.Seeds.{tileCount, firstShown, seedStrand, FirstWith}
+use Rattle.seed_strands.specs.Strands.{tileCount, firstShown, seedStrand, FirstWith}
 
 module _ (n : Names) (name : List ℕ) where
   -- no tile that was passed over shows the name

@@ -10,8 +10,11 @@ use lib.Dec.{ltb}
 use lib.ListN.{length, getD, take, drop, set, length-append, drop-of-length-le, List·getD-append}
 use lib.Seq.{sets-eq, take-at, drop-append-add, drop-drop, getD-append-add}
 use borrow.Author.Tests.{ltb-true, ltb-false}
-use Rattle.tile_names.specs.Names.{Names}
-use Rattle.named_seeds.specs.Seeds.{SeedList, seedRow, seedCol, seedName, seedStrand, seedTriples}
+use Rattle.strand_names.specs.Names.{Names}
+use Rattle.seed_sizes.specs.Sizes.{SeedList}
+use Rattle.seed_checks.specs.Each.{seedRow, seedCol, seedName}
+use Rattle.seed_strands.specs.Strands.{seedStrand}
+use Rattle.named_seeds.specs.Seeds.{seedTriples}
 
 -- three stores in a row
 pub three-stores : (l : List ℕ) (k row col strand : ℕ) → 3 * k + 3 ≤ length l

@@ -1,4 +1,3 @@
-pub mod Passed
 pub mod Tile
 pub mod Shown
 pub mod Unique

@@ -12,8 +12,10 @@ use lib.Seq.{drop-cons}
 use borrow.Author.Tests.{lt-ltb, le-ltb, ltb-true, ltb-false, eq-eqb, ne-eqb}
 use Rattle.units.specs.Refusals.{passes}
 use Rattle.entries.specs.Entries.{part, entryOf}
-use Rattle.tile_names.specs.Numerals.{digit, numeralsFrom, numeralStart, numeralEnd, decimalIn, decimal}
-use Rattle.tile_names.specs.Names.{Names, nullName, tileVerdict, shownName, Readable}
+use Rattle.strand_names.specs.Numerals.{digit, numeralsFrom, numeralStart, numeralEnd, decimalIn, decimal}
+use Rattle.strand_names.specs.Names.{Names, nullName, Readable}
+use Rattle.tile_names.specs.Tiles.{tileVerdict}
+use Rattle.shown_names.specs.Shown.{shownName}
 use Rattle.tile_names.proofs.Tile.{tile-readable}
 
 twice-suc : (j : ℕ) → 2 * suc j ≡ suc (suc (2 * j))

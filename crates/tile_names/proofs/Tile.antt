@@ -1,17 +1,18 @@
 -- What the tests of a tile's name come to, test by test, and what they tell where they pass. Assumes nothing.
 use Prim.Native.Nat.{ℕ, _<_}
 use mathlib.Core.Path.{_≡_, refl, sym, _∙_, ap}
-use mathlib.Core.Bool.{Bool, true, false, not}
+use mathlib.Core.Bool.{true, false}
 use mathlib.Core.List.{List, []}
 use lib.Dec.{ltb}
 use lib.ListN.{length}
-use borrow.Author.Tests.{ltb-true, not-false}
-use Rattle.units.specs.Refusals.{Verdict, passes, refuses, refuseIf, ifPasses, numberIn, _▷_}
-use Rattle.units.proofs.Verdicts.{no-fault, first-passes, rest-passes}
-use Rattle.tile_names.specs.declared.tiles.NumberAnswer.{NumberAnswer}
-use Rattle.tile_names.specs.declared.tiles.NumberAnswer.the-variants.{Shown, Refused}
-use Rattle.tile_names.specs.Names.{Names, names, namesSized, namesRead, namesSizes, namesReading, tileBelow, tileVerdict, numberAnswer, numberOf, Readable}
-use Rattle.tile_names.proofs.Passed.{sized, readable}
+use borrow.Author.Tests.{ltb-true}
+use Rattle.units.specs.Refusals.{Verdict, passes, refuses, ifPasses, numberIn, _▷_}
+use Rattle.units.proofs.Verdicts.{first-passes, rest-passes}
+use Rattle.tile_names.specs.declared.NumberAnswer.{NumberAnswer}
+use Rattle.tile_names.specs.declared.NumberAnswer.the-variants.{Shown, Refused}
+use Rattle.strand_names.specs.Names.{Names, names, namesSized, namesRead, namesSizes, namesReading, Readable}
+use Rattle.tile_names.specs.Tiles.{tileBelow, tileVerdict, numberAnswer, numberOf}
+use Rattle.strand_names.proofs.Passed.{no-fault-found, sized, readable}
 
 module _ (strands : ℕ) (text offsets present numerals : List ℕ) (tile : ℕ) where
   pub refuses-1 : namesSized strands text offsets present ≡ false → tileVerdict strands (names text offsets present numerals) tile ≡ refuses 1 []
@@ -45,10 +46,6 @@ shown-passes (refuses number values) e f = cc
 pub refused-old : {A : Type 0} {r : NumberAnswer} {number : ℕ} (v : Verdict) (new old : A) → r ≡ numberAnswer v → r ≡ Refused number → ifPasses v new old ≡ old
 refused-old passes new old e f = cc
 refused-old (refuses number values) new old e f = refl
-
--- a fault that a test looked for and did not find
-pub no-fault-found : (b : Bool) (number : ℕ) (values : List ℕ) → refuseIf (not b) number values ≡ passes → b ≡ true
-no-fault-found b number values e = not-false b (no-fault (not b) number values e)
 
 pub tile-readable : (strands : ℕ) (n : Names) (tile : ℕ) → tileVerdict strands n tile ≡ passes → Readable n × (tile < length (n .present))
 tile-readable strands n tile e =

@@ -3,10 +3,10 @@ use Prim.Native.Nat.{ℕ}
 use mathlib.Core.List.{List}
 use denote.Ref.{RefT, ptr, now}
 use Rattle.units.proofs.Unique.{OneAnswer, OneAnswerAs, one-answer}
-use Rattle.tile_names.proofs.tiles.tile_name_refusal.Kinds as refusal-kinds
-use Rattle.tile_names.proofs.tiles.tile_name_refusal.Reads as refusal
-use Rattle.tile_names.proofs.tiles.tile_name.Kinds as name-kinds
-use Rattle.tile_names.proofs.tiles.tile_name.Reads as name
+use Rattle.tile_names.proofs.tile_name_refusal.Kinds as refusal-kinds
+use Rattle.tile_names.proofs.tile_name_refusal.Reads as refusal
+use Rattle.tile_names.proofs.tile_name.Kinds as name-kinds
+use Rattle.tile_names.proofs.tile_name.Reads as name
 
 pub tile-name-refusal : OneAnswer 4 refusal-kinds.ps refusal-kinds.r refusal.Post
 tile-name-refusal κs input a b at-a at-b p q = one-answer (p .1) (q .1)

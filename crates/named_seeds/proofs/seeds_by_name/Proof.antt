@@ -6,8 +6,9 @@ use borrow.Author.Needs.{needs}
 use Rattle.units.specs.Refusals.{check, ifPasses}
 use Rattle.units.proofs.Answers.{a-check, refused, given}
 use Rattle.units.proofs.Verdicts.{passed, refused-keeps}
-use Rattle.tile_names.specs.Names.{names}
-use Rattle.named_seeds.specs.Seeds.{seedList, seedCount, seedsVerdict, seedTriples}
+use Rattle.strand_names.specs.Names.{names}
+use Rattle.seed_sizes.specs.Sizes.{seedList, seedCount}
+use Rattle.named_seeds.specs.Seeds.{seedsVerdict, seedTriples}
 use Rattle.named_seeds.proofs.Chain.{fillable, seeds-tabled}
 use Rattle.named_seeds.proofs.seeds_by_name.Statement.{statement}
 use Rattle.named_seeds.proofs.seeds_by_name.Tie as tie
