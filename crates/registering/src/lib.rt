@@ -4,63 +4,15 @@ ghost use lib.ListN.{length};
 ghost use Rattle.units.specs.Refusals.{Prints};
 ghost use Rattle.units.specs.Answers.{countRefusal};
 ghost use Rattle.glue_names.specs.Names.{names, Readable};
-ghost use Rattle.glue_tables.specs.Tables.{strandTable, scaffoldTable};
-ghost use Rattle.glue_names.specs.Glues.{Searchable};
-ghost use Rattle.register_input.specs.Input.{request, firstBay, Fitting};
+ghost use Rattle.register_input.specs.Input.{request, Fitting};
 ghost use Rattle.registering.specs.Register.{registerVerdict, registerAnswer, gluesAfter, scaffoldAfter, basesAfter};
 ghost use Rattle.registering.specs.Steps.{Registered};
-use glue_tables::fill_scaffold;
-use glue_tables::fill_strands;
 use new_bases::collect;
 use register_input::check_input;
+use registered_tables::write_tables;
 use scaffold_stars::check_stars;
 use units::Check;
 use units::CountAnswer;
-
-// Copies the list of bases into the lent table.
-fn copy_bases(list: &[usize], table: &mut [usize])
-    requires { ⌜ length (now list) ≡ length (now table) ⌝ }
-    ensures { λ _. ⌜ now (table .exit) ≡ now (list .entry) ⌝ }
-{
-    let mut i = 0;
-    while i < table.len() {
-        table[i] = list[i];
-        i += 1;
-    }
-}
-
-// Writes the three lent tables.
-fn write_tables(
-    strands: usize,
-    text: &[u8],
-    offsets: &[usize],
-    present: &[u8],
-    list: &[usize],
-    count: usize,
-    glues: &mut [u32],
-    scaffold: &mut [u32],
-    bases: &mut [usize],
-)
-    requires { ⌜ Readable (names (now text) (now offsets) (now present)) ⌝ }
-    requires { ⌜ Searchable (names (now text) (now offsets) (now present)) (now list) count ⌝ }
-    requires { ⌜ Fitting (names (now text) (now offsets) (now present)) strands (length (now glues)) (length (now scaffold)) (length (now bases)) ⌝ }
-    requires { ⌜ length (now list) ≡ 254 ⌝ }
-    ensures glues { λ _. ⌜ now (glues .exit) ≡ strandTable (names (now (text .entry)) (now (offsets .entry)) (now (present .entry))) (now (list .entry)) count strands ⌝ }
-    ensures scaffold { λ _. ⌜ now (scaffold .exit) ≡ scaffoldTable (names (now (text .entry)) (now (offsets .entry)) (now (present .entry))) (now (list .entry)) count (firstBay strands) (length (now (scaffold .entry))) ⌝ }
-    ensures bases { λ _. ⌜ now (bases .exit) ≡ now (list .entry) ⌝ }
-{
-    fill_strands(strands, text, offsets, present, list, count, glues);
-    fill_scaffold(
-        (strands - 1) * 5,
-        text,
-        offsets,
-        present,
-        list,
-        count,
-        scaffold,
-    );
-    copy_bases(list, bases);
-}
 
 // Registers names that can be read. The bases are collected aside, so that a refusal writes nothing.
 fn register_names(

@@ -1,4 +1,4 @@
--- `registering::copy_bases` meets its contract. The invariant: the first i numbers are copied, and the rest is as it was. Assumes nothing.
+-- `registered_tables::copy_bases` meets its contract. The invariant: the first i numbers are copied, and the rest is as it was. Assumes nothing.
 use Prim.Native.Nat.{_+_, _-_, _≤_, _<_}
 use mathlib.Core.Path.{_≡_, refl, _∙_, ap}
 use mathlib.Core.List.{_++_}
@@ -9,8 +9,8 @@ use lib.Seq.{take-length}
 use denote.Ref.{now}
 use borrow.Author.Needs.{scaled-fits}
 use Rattle.glue_tables.proofs.Stores.{copy-turn, all-written}
-use Rattle.registering.proofs.copy_bases.Statement.{statement}
-use Rattle.registering.proofs.copy_bases.Tie as tie
+use Rattle.registered_tables.proofs.copy_bases.Statement.{statement}
+use Rattle.registered_tables.proofs.copy_bases.Tie as tie
 
 abbrev Inv-loop : tie.InvT-loop
 Inv-loop list table₀ i₀ table i = (i ≤ length table₀) × (table ≡ take i list ++ drop i table₀) × (length table ≡ length table₀)

@@ -1,8 +1,8 @@
--- `registering::write_tables` meets its contract. Assumes nothing.
+-- `registered_tables::write_tables` meets its contract. Assumes nothing.
 use native.Mathlib.Omega.{arith}
 use borrow.Author.Needs.{needs}
-use Rattle.registering.proofs.write_tables.Statement.{statement}
-use Rattle.registering.proofs.write_tables.Tie as tie
+use Rattle.registered_tables.proofs.write_tables.Statement.{statement}
+use Rattle.registered_tables.proofs.write_tables.Tie as tie
 
 fill-strands-requires : tie.Need-fill-strands-requires
 fill-strands-requires c κs =
