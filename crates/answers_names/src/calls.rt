@@ -1,8 +1,14 @@
 // The calls on a system's names: fields are read, the library is asked with tables of sevens, and the answer is put down.
 use crate::answers;
+use crate::fields::are_numbers;
 use crate::fields::at_most;
+use crate::fields::both_read;
+use crate::fields::counted;
+use crate::fields::is_number;
+use crate::fields::number_in;
 use crate::fields::numerals_field;
 use crate::fields::product;
+use crate::fields::three_read;
 use crate::tables::all_numbers;
 use crate::tables::all_small_numbers;
 use answer_lines::put_value;
@@ -14,7 +20,6 @@ use case_fields::number_or;
 use case_fields::numbers_field;
 use case_fields::text_field;
 use case_lists::Count;
-use case_text::Number;
 use case_text::first_bytes;
 use case_text::first_numbers;
 use case_text::first_small_numbers;
@@ -97,27 +102,21 @@ fn bays(rows: usize, cols: usize) -> usize {
 fn register_read(
     line: &[u8],
     text: &[u8; 16400],
-    text_read: Count,
+    text_count: usize,
     offsets: &[usize; 1400],
-    offsets_read: Count,
+    offsets_count: usize,
     present: &[u8; 1400],
-    present_read: Count,
+    present_count: usize,
     out: &mut [u8],
 ) -> usize {
-    let Count::Of(t) = text_read else {
+    if !three_read(text_count, offsets_count, present_count) {
         return unreadable(out);
-    };
-    let Count::Of(o) = offsets_read else {
-        return unreadable(out);
-    };
-    let Count::Of(p) = present_read else {
-        return unreadable(out);
-    };
+    }
     register_numbers(
         line,
-        first_bytes(text, t),
-        first_numbers(offsets, o),
-        first_bytes(present, p),
+        first_bytes(text, text_count),
+        first_numbers(offsets, offsets_count),
+        first_bytes(present, present_count),
         out,
     )
 }
@@ -129,49 +128,47 @@ struct Sizes {
     strands: usize,
 }
 
-enum SizesRead {
-    Of(Sizes),
-    Unreadable,
+// Whether all three could be read, and the sizes.
+struct SizesRead {
+    readable: bool,
+    sizes: Sizes,
 }
 
 fn read_sizes(line: &[u8]) -> SizesRead {
-    let Number::Of(rows) = number_field(line, b"rows") else {
-        return SizesRead::Unreadable;
+    let rows = number_field(line, b"rows");
+    let cols = number_field(line, b"cols");
+    let strands = number_field(line, b"strands");
+    let sizes = Sizes {
+        rows: number_in(rows),
+        cols: number_in(cols),
+        strands: number_in(strands),
     };
-    let Number::Of(cols) = number_field(line, b"cols") else {
-        return SizesRead::Unreadable;
-    };
-    let Number::Of(strands) = number_field(line, b"strands") else {
-        return SizesRead::Unreadable;
-    };
-    SizesRead::Of(Sizes {
-        rows: rows as usize,
-        cols: cols as usize,
-        strands: strands as usize,
-    })
+    SizesRead {
+        readable: are_numbers(rows, cols, strands),
+        sizes,
+    }
 }
 
-enum LengthsRead {
-    Of(Lengths),
-    Unreadable,
+// Whether all three could be read, and the lengths.
+struct LengthsRead {
+    readable: bool,
+    lengths: Lengths,
 }
 
 fn read_lengths(line: &[u8], sizes: Sizes) -> LengthsRead {
     let glues = product(at_most(sizes.strands, 66), 5);
-    let Number::Of(g) = number_or(line, b"glues_length", glues) else {
-        return LengthsRead::Unreadable;
+    let g = number_or(line, b"glues_length", glues);
+    let s = number_or(line, b"scaffold_length", bays(sizes.rows, sizes.cols));
+    let b = number_or(line, b"bases_length", 254);
+    let lengths = Lengths {
+        glues: number_in(g),
+        scaffold: number_in(s),
+        bases: number_in(b),
     };
-    let Number::Of(s) = number_or(line, b"scaffold_length", bays(sizes.rows, sizes.cols)) else {
-        return LengthsRead::Unreadable;
-    };
-    let Number::Of(b) = number_or(line, b"bases_length", 254) else {
-        return LengthsRead::Unreadable;
-    };
-    LengthsRead::Of(Lengths {
-        glues: g as usize,
-        scaffold: s as usize,
-        bases: b as usize,
-    })
+    LengthsRead {
+        readable: are_numbers(g, s, b),
+        lengths,
+    }
 }
 
 // The numbers of a case are read.
@@ -182,12 +179,16 @@ fn register_numbers(
     present: &[u8],
     out: &mut [u8],
 ) -> usize {
-    let SizesRead::Of(sizes) = read_sizes(line) else {
+    let asked = read_sizes(line);
+    let sizes = asked.sizes;
+    let lent = read_lengths(line, sizes);
+    let lengths = lent.lengths;
+    if !asked.readable {
         return unreadable(out);
-    };
-    let LengthsRead::Of(lengths) = read_lengths(line, sizes) else {
+    }
+    if !lent.readable {
         return unreadable(out);
-    };
+    }
     register_lent(sizes, text, offsets, present, lengths, out)
 }
 
@@ -218,19 +219,19 @@ fn register_lent(
 
 pub(crate) fn register(line: &[u8], out: &mut [u8]) -> usize {
     let mut text = [0u8; 16400];
-    let text_read = text_field(line, b"text", &mut text);
+    let text_count = counted(text_field(line, b"text", &mut text));
     let mut offsets = [0usize; 1400];
-    let offsets_read = numbers_field(line, b"offsets", &mut offsets);
+    let offsets_count = counted(numbers_field(line, b"offsets", &mut offsets));
     let mut present = [0u8; 1400];
-    let present_read = bytes_field(line, b"present", &mut present);
+    let present_count = counted(bytes_field(line, b"present", &mut present));
     register_read(
         line,
         &text,
-        text_read,
+        text_count,
         &offsets,
-        offsets_read,
+        offsets_count,
         &present,
-        present_read,
+        present_count,
         out,
     )
 }
@@ -256,7 +257,7 @@ fn tile_name_into<'a>(
 }
 
 // A tile number; what is past 32 bits is taken for the largest of them, which is no strand either.
-fn tile_number(n: u64) -> u32 {
+fn tile_number(n: usize) -> u32 {
     if n < 4294967295 { n as u32 } else { 4294967295 }
 }
 
@@ -269,19 +270,18 @@ fn tile_asked<'a>(
     numerals: &'a [u8],
     out: &mut [u8],
 ) -> usize {
-    let Number::Of(strands) = number_field(line, b"strands") else {
+    let strands = number_field(line, b"strands");
+    let tile = number_field(line, b"tile");
+    if !are_numbers(strands, tile, tile) {
         return unreadable(out);
-    };
-    let Number::Of(tile) = number_field(line, b"tile") else {
-        return unreadable(out);
-    };
+    }
     tile_name_into(
-        strands as usize,
+        number_in(strands),
         text,
         offsets,
         present,
         numerals,
-        tile_number(tile),
+        tile_number(number_in(tile)),
         out,
     )
 }
@@ -328,31 +328,25 @@ fn seeds_read(
     present: &[u8],
     numerals: &[u8],
     places: &[usize; 64],
-    places_read: Count,
+    places_count: usize,
     seed_text: &[u8; 16400],
-    seed_text_read: Count,
+    seed_text_count: usize,
     seed_offsets: &[usize; 64],
-    seed_offsets_read: Count,
+    seed_offsets_count: usize,
     out: &mut [u8],
 ) -> usize {
-    let Count::Of(k) = places_read else {
+    if !three_read(places_count, seed_text_count, seed_offsets_count) {
         return unreadable(out);
-    };
-    let Count::Of(u) = seed_text_read else {
-        return unreadable(out);
-    };
-    let Count::Of(v) = seed_offsets_read else {
-        return unreadable(out);
-    };
+    }
     seeds_numbers(
         line,
         text,
         offsets,
         present,
         numerals,
-        first_numbers(places, k),
-        first_bytes(seed_text, u),
-        first_numbers(seed_offsets, v),
+        first_numbers(places, places_count),
+        first_bytes(seed_text, seed_text_count),
+        first_numbers(seed_offsets, seed_offsets_count),
         out,
     )
 }
@@ -369,12 +363,15 @@ fn seeds_numbers(
     seed_offsets: &[usize],
     out: &mut [u8],
 ) -> usize {
-    let SizesRead::Of(sizes) = read_sizes(line) else {
+    let asked = read_sizes(line);
+    let sizes = asked.sizes;
+    let length = number_or(line, b"seeds_length", product(places.len() / 2, 3));
+    if !asked.readable {
         return unreadable(out);
-    };
-    let Number::Of(length) = number_or(line, b"seeds_length", product(places.len() / 2, 3)) else {
+    }
+    if !is_number(length) {
         return unreadable(out);
-    };
+    }
     let mut seeds = [7u32; 128];
     seeds_into(
         sizes,
@@ -385,7 +382,7 @@ fn seeds_numbers(
         places,
         seed_text,
         seed_offsets,
-        length as usize,
+        number_in(length),
         &mut seeds,
         out,
     )
@@ -401,11 +398,11 @@ fn seeds_given(
     out: &mut [u8],
 ) -> usize {
     let mut places = [0usize; 64];
-    let places_read = numbers_field(line, b"places", &mut places);
+    let places_count = counted(numbers_field(line, b"places", &mut places));
     let mut seed_text = [0u8; 16400];
-    let seed_text_read = text_field(line, b"seed_text", &mut seed_text);
+    let seed_text_count = counted(text_field(line, b"seed_text", &mut seed_text));
     let mut seed_offsets = [0usize; 64];
-    let seed_offsets_read = numbers_field(line, b"seed_offsets", &mut seed_offsets);
+    let seed_offsets_count = counted(numbers_field(line, b"seed_offsets", &mut seed_offsets));
     seeds_read(
         line,
         text,
@@ -413,11 +410,11 @@ fn seeds_given(
         present,
         numerals,
         &places,
-        places_read,
+        places_count,
         &seed_text,
-        seed_text_read,
+        seed_text_count,
         &seed_offsets,
-        seed_offsets_read,
+        seed_offsets_count,
         out,
     )
 }
@@ -443,34 +440,28 @@ fn names_read<'a>(
     line: &[u8],
     seeds: bool,
     text: &'a [u8; 16400],
-    text_read: Count,
+    text_count: usize,
     offsets: &[usize; 80],
-    offsets_read: Count,
+    offsets_count: usize,
     present: &[u8; 80],
-    present_read: Count,
+    present_count: usize,
     numerals: &'a [u8; 256],
-    numerals_read: Count,
+    numerals_count: usize,
     out: &mut [u8],
 ) -> usize {
-    let Count::Of(t) = text_read else {
+    if !three_read(text_count, offsets_count, present_count) {
         return unreadable(out);
-    };
-    let Count::Of(o) = offsets_read else {
+    }
+    if !both_read(text_count, numerals_count) {
         return unreadable(out);
-    };
-    let Count::Of(p) = present_read else {
-        return unreadable(out);
-    };
-    let Count::Of(n) = numerals_read else {
-        return unreadable(out);
-    };
+    }
     ask_names(
         line,
         seeds,
-        first_bytes(text, t),
-        first_numbers(offsets, o),
-        first_bytes(present, p),
-        first_bytes(numerals, n),
+        first_bytes(text, text_count),
+        first_numbers(offsets, offsets_count),
+        first_bytes(present, present_count),
+        first_bytes(numerals, numerals_count),
         out,
     )
 }
@@ -478,24 +469,24 @@ fn names_read<'a>(
 // The calls on the names of strands: the seeds of a case, or one tile's name.
 pub(crate) fn strand_names(line: &[u8], seeds: bool, out: &mut [u8]) -> usize {
     let mut text = [0u8; 16400];
-    let text_read = text_field(line, b"text", &mut text);
+    let text_count = counted(text_field(line, b"text", &mut text));
     let mut offsets = [0usize; 80];
-    let offsets_read = numbers_field(line, b"offsets", &mut offsets);
+    let offsets_count = counted(numbers_field(line, b"offsets", &mut offsets));
     let mut present = [0u8; 80];
-    let present_read = bytes_field(line, b"present", &mut present);
+    let present_count = counted(bytes_field(line, b"present", &mut present));
     let mut numerals = [0u8; 256];
-    let numerals_read = numerals_field(line, &mut numerals);
+    let numerals_count = counted(numerals_field(line, &mut numerals));
     names_read(
         line,
         seeds,
         &text,
-        text_read,
+        text_count,
         &offsets,
-        offsets_read,
+        offsets_count,
         &present,
-        present_read,
+        present_count,
         &numerals,
-        numerals_read,
+        numerals_count,
         out,
     )
 }

@@ -1,5 +1,10 @@
 // The call on energy keys: the matrices are the program's, filled with 7.0 as far as the case lends them.
+use crate::fields::are_numbers;
+use crate::fields::both_read;
+use crate::fields::counted;
+use crate::fields::number_in;
 use crate::fields::product;
+use crate::fields::three_read;
 use crate::tables::all_floats;
 use crate::tables::fill_floats;
 use answer_lines::put_floats;
@@ -13,8 +18,6 @@ use case_fields::number_field;
 use case_fields::number_or;
 use case_fields::numbers_field;
 use case_fields::text_field;
-use case_lists::Count;
-use case_text::Number;
 use case_text::first_bytes;
 use case_text::first_floats;
 use case_text::first_numbers;
@@ -155,6 +158,26 @@ fn at_least(length: usize, read: usize) -> usize {
     if length < read { read } else { length }
 }
 
+// The numbers of a case on keys, and whether they and the list of bases could be read.
+struct KeyNumbers {
+    readable: bool,
+    bases_length: usize,
+    count: usize,
+    side: usize,
+}
+
+fn read_numbers(line: &[u8], bases_count: usize) -> KeyNumbers {
+    let length = number_or(line, b"bases_length", at_least(254, bases_count));
+    let count = number_field(line, b"count");
+    let side = number_or(line, b"side", side_for(number_in(count)));
+    KeyNumbers {
+        readable: both_read(bases_count, bases_count) && are_numbers(length, count, side),
+        bases_length: number_in(length),
+        count: number_in(count),
+        side: number_in(side),
+    }
+}
+
 // The list of bases and the numbers of a case are read.
 fn keys_numbers(
     line: &[u8],
@@ -166,24 +189,15 @@ fn keys_numbers(
     sequences: &[u8],
     sequence_offsets: &[usize],
     bases: &[usize; 300],
-    bases_read: Count,
+    bases_count: usize,
     delta_g: &mut [f64],
     entropy: &mut [f64],
     out: &mut [u8],
 ) -> usize {
-    let Count::Of(bases_count) = bases_read else {
+    let asked = read_numbers(line, bases_count);
+    if !asked.readable {
         return unreadable(out);
-    };
-    let otherwise = at_least(254, bases_count);
-    let Number::Of(length) = number_or(line, b"bases_length", otherwise) else {
-        return unreadable(out);
-    };
-    let Number::Of(count) = number_field(line, b"count") else {
-        return unreadable(out);
-    };
-    let Number::Of(side) = number_or(line, b"side", side_for(count as usize)) else {
-        return unreadable(out);
-    };
+    }
     keys_lent(
         text,
         offsets,
@@ -192,9 +206,9 @@ fn keys_numbers(
         numbers,
         sequences,
         sequence_offsets,
-        first_numbers(bases, length as usize),
-        count as usize,
-        side as usize,
+        first_numbers(bases, asked.bases_length),
+        asked.count,
+        asked.side,
         delta_g,
         entropy,
         out,
@@ -210,21 +224,18 @@ fn keys_sequences(
     kinds: &[u8],
     numbers: &[f64],
     sequences: &[u8; 16400],
-    sequences_read: Count,
+    sequences_count: usize,
     sequence_offsets: &[usize; 64],
-    sequence_offsets_read: Count,
+    sequence_offsets_count: usize,
     delta_g: &mut [f64],
     entropy: &mut [f64],
     out: &mut [u8],
 ) -> usize {
-    let Count::Of(sequences_count) = sequences_read else {
+    if !both_read(sequences_count, sequence_offsets_count) {
         return unreadable(out);
-    };
-    let Count::Of(sequence_offsets_count) = sequence_offsets_read else {
-        return unreadable(out);
-    };
+    }
     let mut bases = [0usize; 300];
-    let bases_read = numbers_field(line, b"bases", &mut bases);
+    let bases_count = counted(numbers_field(line, b"bases", &mut bases));
     keys_numbers(
         line,
         text,
@@ -235,7 +246,7 @@ fn keys_sequences(
         first_bytes(sequences, sequences_count),
         first_numbers(sequence_offsets, sequence_offsets_count),
         &bases,
-        bases_read,
+        bases_count,
         delta_g,
         entropy,
         out,
@@ -248,28 +259,26 @@ fn keys_kinds(
     text: &[u8],
     offsets: &[usize],
     paired: &[u8; 64],
-    paired_read: Count,
+    paired_count: usize,
     kinds: &[u8; 64],
-    kinds_read: Count,
+    kinds_count: usize,
     numbers: &[f64; 128],
-    numbers_read: Count,
+    numbers_count: usize,
     delta_g: &mut [f64],
     entropy: &mut [f64],
     out: &mut [u8],
 ) -> usize {
-    let Count::Of(paired_count) = paired_read else {
+    if !three_read(paired_count, kinds_count, numbers_count) {
         return unreadable(out);
-    };
-    let Count::Of(kinds_count) = kinds_read else {
-        return unreadable(out);
-    };
-    let Count::Of(numbers_count) = numbers_read else {
-        return unreadable(out);
-    };
+    }
     let mut sequences = [0u8; 16400];
-    let sequences_read = text_field(line, b"sequences", &mut sequences);
+    let sequences_count = counted(text_field(line, b"sequences", &mut sequences));
     let mut sequence_offsets = [0usize; 64];
-    let sequence_offsets_read = numbers_field(line, b"sequence_offsets", &mut sequence_offsets);
+    let sequence_offsets_count = counted(numbers_field(
+        line,
+        b"sequence_offsets",
+        &mut sequence_offsets,
+    ));
     keys_sequences(
         line,
         text,
@@ -278,9 +287,9 @@ fn keys_kinds(
         first_bytes(kinds, kinds_count),
         first_floats(numbers, numbers_count),
         &sequences,
-        sequences_read,
+        sequences_count,
         &sequence_offsets,
-        sequence_offsets_read,
+        sequence_offsets_count,
         delta_g,
         entropy,
         out,
@@ -291,35 +300,32 @@ fn keys_kinds(
 fn keys_named(
     line: &[u8],
     text: &[u8; 16400],
-    text_read: Count,
+    text_count: usize,
     offsets: &[usize; 128],
-    offsets_read: Count,
+    offsets_count: usize,
     delta_g: &mut [f64],
     entropy: &mut [f64],
     out: &mut [u8],
 ) -> usize {
-    let Count::Of(text_count) = text_read else {
+    if !both_read(text_count, offsets_count) {
         return unreadable(out);
-    };
-    let Count::Of(offsets_count) = offsets_read else {
-        return unreadable(out);
-    };
+    }
     let mut paired = [0u8; 64];
-    let paired_read = bytes_field(line, b"paired", &mut paired);
+    let paired_count = counted(bytes_field(line, b"paired", &mut paired));
     let mut kinds = [0u8; 64];
-    let kinds_read = bytes_field(line, b"kinds", &mut kinds);
+    let kinds_count = counted(bytes_field(line, b"kinds", &mut kinds));
     let mut numbers = [0.0; 128];
-    let numbers_read = floats_field(line, b"numbers", &mut numbers);
+    let numbers_count = counted(floats_field(line, b"numbers", &mut numbers));
     keys_kinds(
         line,
         first_bytes(text, text_count),
         first_numbers(offsets, offsets_count),
         &paired,
-        paired_read,
+        paired_count,
         &kinds,
-        kinds_read,
+        kinds_count,
         &numbers,
-        numbers_read,
+        numbers_count,
         delta_g,
         entropy,
         out,
@@ -333,15 +339,15 @@ pub(crate) fn energy_keys(
     out: &mut [u8],
 ) -> usize {
     let mut text = [0u8; 16400];
-    let text_read = text_field(line, b"text", &mut text);
+    let text_count = counted(text_field(line, b"text", &mut text));
     let mut offsets = [0usize; 128];
-    let offsets_read = numbers_field(line, b"offsets", &mut offsets);
+    let offsets_count = counted(numbers_field(line, b"offsets", &mut offsets));
     keys_named(
         line,
         &text,
-        text_read,
+        text_count,
         &offsets,
-        offsets_read,
+        offsets_count,
         delta_g,
         entropy,
         out,
