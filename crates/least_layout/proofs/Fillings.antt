@@ -14,7 +14,7 @@ use lib.Seq.{drop-cons}
 use borrow.Author.Tests.{lt-leb, eq-eqb}
 use Rattle.sdc2d.specs.System.{System}
 use Rattle.beta_energies.specs.Energies.{bayEnergy, edgeEnergy}
-use Rattle.legal_at.specs.Lists.{Constraints}
+use Rattle.bay_lists.specs.Lists.{Constraints}
 use Rattle.legal_at.specs.Legal.{isLegal}
 use Rattle.scan_order.specs.Scan.{bayAt, numberAt}
 use Rattle.legal.specs.Sets.{bays}

@@ -16,7 +16,7 @@ use Rattle.sets.proofs.Words.{has-word, word-same, word-has}
 use Rattle.sets.proofs.Members.{Member, member, member-at, members-same, length-less, rising}
 use Rattle.sdc2d.specs.System.{System}
 use Rattle.beta_energies.specs.Energies.{nothing, bayEnergy, edgeEnergy}
-use Rattle.legal_at.specs.Lists.{Constraints}
+use Rattle.bay_lists.specs.Lists.{Constraints}
 use Rattle.legal_at.specs.Legal.{permitted, isLegal}
 use Rattle.scan_order.specs.Scan.{bayAt}
 use Rattle.legal.specs.Sets.{bays, setsOf}

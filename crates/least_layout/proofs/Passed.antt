@@ -14,7 +14,7 @@ use Rattle.sets.proofs.Members.{length-less}
 use Rattle.sets.proofs.Operations.{word-none}
 use Rattle.sdc2d.specs.System.{System}
 use Rattle.sdc2d.proofs.Fine.{Fine}
-use Rattle.legal_at.specs.Lists.{Constraints}
+use Rattle.bay_lists.specs.Lists.{Constraints}
 use Rattle.legal_at.specs.Legal.{isLegal}
 use Rattle.scan_order.specs.Scan.{bayAt}
 use Rattle.legal.specs.Sets.{bays, setsOf, emptyVerdict}

@@ -12,7 +12,7 @@ use Rattle.floats.specs.Values.{Good, Bad}
 use Rattle.sdc2d.specs.System.{System}
 use Rattle.beta_energies.specs.Energies.{noEnergy}
 use Rattle.beta_energies.proofs.Laws.{no-energy-is}
-use Rattle.legal_at.specs.Lists.{Constraints}
+use Rattle.bay_lists.specs.Lists.{Constraints}
 use Rattle.legal.specs.Sets.{bays}
 use Rattle.ledger_rows.specs.Scan.{Scan, Legal, Filled, scanSum}
 use Rattle.ledger_rows.specs.Trace.{answer, layout}

@@ -9,7 +9,7 @@ use lib.Ieee.{Float, binary64, ofBits, add, le}
 use lib.ListN.{length, getD}
 use Rattle.sdc2d.specs.System.{System}
 use Rattle.beta_energies.specs.Energies.{bayEnergy, edgeEnergy, noEnergy}
-use Rattle.legal_at.specs.Lists.{Constraints}
+use Rattle.bay_lists.specs.Lists.{Constraints}
 use Rattle.legal_at.specs.Legal.{isLegal}
 use Rattle.scan_order.specs.Scan.{bayAt}
 use Rattle.legal.specs.Sets.{bays}

@@ -6,7 +6,7 @@ use lib.Ieee.{Float}
 use lib.ListN.{getD}
 use Rattle.sdc2d.specs.declared.sizes.Sizes.{Sizes}
 use Rattle.sdc2d.specs.System.{System}
-use Rattle.legal_at.specs.Lists.{Constraints}
+use Rattle.bay_lists.specs.Lists.{Constraints}
 use Rattle.scan_order.specs.Scan.{numberAt}
 use Rattle.legal.specs.Sets.{bays, setsOf}
 use Rattle.ledger_rows.specs.Scan.{Scan}

@@ -1,2 +1,1 @@
-pub mod Scan
 pub mod Sets

@@ -5,4 +5,3 @@ mod grid;
 pub use allowed::allowed_tiles;
 pub use allowed::check_shape;
 pub use grid::grid_sets;
-pub use scan_order::number_at;

@@ -12,7 +12,7 @@ use Rattle.units.specs.Refusals.{Verdict, passes, check}
 use Rattle.bonds.specs.Readable.{Readable}
 use Rattle.sdc2d.specs.System.{System, systemVerdict}
 use Rattle.sdc2d.proofs.Fine.{Fine, fine}
-use Rattle.legal_at.specs.Lists.{Constraints, offsetsShaped}
+use Rattle.bay_lists.specs.Lists.{Constraints, offsetsShaped}
 use Rattle.legal_at.specs.Legal.{isLegal}
 use Rattle.legal_at.specs.OnGrid.{Grid}
 use Rattle.legal_at.proofs.Sound.{sound}

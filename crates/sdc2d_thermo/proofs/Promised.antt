@@ -15,7 +15,7 @@ use Rattle.beta_energies.specs.Energies.{noEnergy}
 use Rattle.state_energy.specs.StateG.{energyVerdict, inKcal}
 use Rattle.sdc2d.specs.System.{System, systemVerdict}
 use Rattle.sdc2d.proofs.Tabled.{system-tabled}
-use Rattle.legal_at.specs.Lists.{Constraints, offsetsShaped}
+use Rattle.bay_lists.specs.Lists.{Constraints, offsetsShaped}
 use Rattle.legal.specs.Sets.{bays, setsOf, shapeVerdict, firstEmpty, emptyVerdict}
 use Rattle.least_layout.specs.Run.{systemScan, runNeed, leastSum}
 use Rattle.sdc2d_thermo.specs.Run.{earlyVerdict, sumVerdict, runVerdict, mfeAnswer, layoutAfter, energiesAfter, notesAfter}

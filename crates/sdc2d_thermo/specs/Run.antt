@@ -8,7 +8,7 @@ use Rattle.units.specs.Answers.{energyAnswer}
 use Rattle.units.specs.Refusals.{Verdict, _▷_, ifPasses}
 use Rattle.sdc2d.specs.System.{System, systemVerdict}
 use Rattle.state_energy.specs.StateG.{energyVerdict, inKcal}
-use Rattle.legal_at.specs.Lists.{Constraints}
+use Rattle.bay_lists.specs.Lists.{Constraints}
 use Rattle.legal.specs.Sets.{bays, setsOf, shapeVerdict, emptyVerdict}
 use Rattle.ledger_rows.specs.Blocks.{energyTable, noteTable}
 use Rattle.run_room.specs.Room.{roomVerdict}

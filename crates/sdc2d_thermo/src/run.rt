@@ -6,7 +6,7 @@ ghost use Rattle.units.specs.Refusals.{passes, Prints};
 ghost use Rattle.units.specs.Answers.{energyRefusal};
 ghost use Rattle.sdc2d.specs.System.{system, systemVerdict};
 ghost use Rattle.bonds.specs.Readable.{Readable};
-ghost use Rattle.legal_at.specs.Lists.{constraints};
+ghost use Rattle.bay_lists.specs.Lists.{constraints};
 ghost use Rattle.legal.specs.Sets.{setsOf, shapeVerdict, emptyVerdict};
 ghost use Rattle.ledger_rows.specs.Scan.{Filled};
 ghost use Rattle.ledger_rows.specs.Blocks.{need};

@@ -18,7 +18,7 @@ use Rattle.sets.specs.Set.{has, word, members}
 use Rattle.entries.specs.Entries.{offsetsFrom}
 use Rattle.sdc2d.specs.System.{isLog, firstBadSeed}
 use Rattle.beta_energies.specs.Energies.{bayEnergy, edgeEnergy, noEnergy}
-use Rattle.legal_at.specs.Lists.{names}
+use Rattle.bay_lists.specs.Lists.{names}
 use Rattle.legal_at.specs.Legal.{seedAt}
 use Rattle.legal.specs.Sets.{setsTo, firstEmpty}
 use Rattle.ledger_rows.specs.Blocks.{tab, flat, size, leavers, newest, lower, lowest, energies, notes, need}

@@ -10,7 +10,7 @@ use Rattle.units.specs.Decimals.{plus, minus}
 use Rattle.units.specs.Refusals.{refusal}
 use Rattle.utils.specs.Starred.{Outcome as Sequences·Outcome, Case as Sequences·Case, starred as Sequences·starred}
 use Rattle.sdc2d.specs.System.{System, system}
-use Rattle.legal_at.specs.Lists.{Constraints, constraints}
+use Rattle.bay_lists.specs.Lists.{Constraints, constraints}
 use Rattle.legal_at.specs.Legal.{isLegal}
 use Rattle.sdc2d_thermo.specs.Run.{mfeAnswer}
 use Rattle.least_layout.specs.Run.{leastLayout, runNeed}

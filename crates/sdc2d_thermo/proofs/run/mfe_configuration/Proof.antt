@@ -8,7 +8,7 @@ use Rattle.units.specs.Refusals.{Verdict, passes, _▷_, check}
 use Rattle.units.proofs.Verdicts.{passed, refused-first}
 use Rattle.sdc2d.specs.System.{System, system, systemVerdict}
 use Rattle.sdc2d.proofs.Fine.{Fine, fine}
-use Rattle.legal_at.specs.Lists.{Constraints, constraints}
+use Rattle.bay_lists.specs.Lists.{Constraints, constraints}
 use Rattle.legal.specs.Sets.{setsOf, shapeVerdict, emptyVerdict}
 use Rattle.least_layout.specs.Run.{systemScan, runNeed}
 use Rattle.sdc2d_thermo.specs.Run.{earlyVerdict}

@@ -8,7 +8,7 @@ use borrow.Author.Needs.{needs}
 use Rattle.units.specs.Refusals.{Verdict, passes, _▷_, check}
 use Rattle.units.proofs.Verdicts.{passed, refused-first}
 use Rattle.sdc2d.specs.System.{System, system}
-use Rattle.legal_at.specs.Lists.{Constraints, constraints}
+use Rattle.bay_lists.specs.Lists.{Constraints, constraints}
 use Rattle.legal.specs.Sets.{setsOf, emptyVerdict}
 use Rattle.ledger_rows.specs.Blocks.{need}
 use Rattle.scan_tables.specs.Order.{scanSets}
