@@ -48,7 +48,7 @@ abbrev pub ifPasses : {A : Type 0} → Verdict → (new old : A) → A
 ifPasses passes new old = new
 ifPasses (refuses number values) new old = old
 
--- the rows of document 01's table that have values beside their number, and how many
+-- the rows of document 01's table that have values beside their number, and how many; 19 is a sheet's (docs/requests/Q-1.md)
 abbrev pub valueRows : List (ℕ × ℕ)
 valueRows =
     (2, 1)
@@ -62,6 +62,7 @@ valueRows =
     ∷ (15, 1)
     ∷ (16, 1)
     ∷ (18, 1)
+    ∷ (19, 2)
     ∷ []
 
 -- how many a row of these has for a number, none where it has no row

@@ -1,0 +1,1 @@
+// Constraint sheets: read from comma-separated text into offsets and tile lists, and written back.

@@ -1,0 +1,1 @@
+// What is proved of constraint sheets as a whole; there is no code here.

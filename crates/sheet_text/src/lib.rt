@@ -1,0 +1,1 @@
+// A sheet written from the lists of a grid's bays: how many bytes it takes, and the bytes.
