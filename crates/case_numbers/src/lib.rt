@@ -57,7 +57,7 @@ pub fn whole(value: &[u8], base: u64) -> Number
 }
 
 // What a byte is worth as a digit, 16 where it is none.
-fn digit(b: u8) -> u64
+pub fn digit(b: u8) -> u64
     ensures { λ r. ⌜ r ≡ Digits·digit b ⌝ }
     ensures { λ r. ⌜ r ≤ 16 ⌝ }
 {

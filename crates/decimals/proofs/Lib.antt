@@ -1,0 +1,4 @@
+pub mod Quotients
+pub mod Digits
+pub mod Parts
+mod Examples
