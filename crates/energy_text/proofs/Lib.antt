@@ -1,0 +1,4 @@
+pub mod Scaling
+pub mod Texts
+pub mod Within
+mod Examples
