@@ -1,2 +1,4 @@
 pub mod Bytes
 pub mod Contents
+pub mod Bare
+pub mod OneField
