@@ -2,3 +2,4 @@ pub mod Bytes
 pub mod Contents
 pub mod Bare
 pub mod OneField
+pub mod Accepted
