@@ -7,7 +7,7 @@ use mathlib.Core.List.{List, [], _∷_, _++_, map, nil≢cons, cons≢nil, head-
 use native.Mathlib.Omega.{arith}
 use lib.Dec.{eqb, ltb, leb, lit<}
 use lib.ListN.{length, getD, length-append}
-use borrow.Author.Tests.{ltb-true, leb-true, eqb-true, eq-eqb, ne-eqb}
+use borrow.Author.Tests.{ltb-true, leb-true, eqb-true, lt-ltb, le-leb, eq-eqb, ne-eqb}
 use Rattle.entries.proofs.Same.{both}
 use Rattle.case_numbers.specs.Digits.{digit, allDigits, worth}
 use Rattle.case_numbers.proofs.Worth.{worth-grows}
@@ -35,6 +35,11 @@ plain-number w e =
       no-zero-first = c .0;
       fits = ltb-true (worth 10 0 w) (2 ^ 32) (c .1);
     }
+
+pub plain-number-is : (w : List ℕ) → PlainNumber w → isPlainNumber w ≡ true
+unfolding isPlainNumber
+plain-number-is w p =
+    rw (le-leb 1 (length w) (p .some), p .digits, p .no-zero-first, lt-ltb (worth 10 0 w) (2 ^ 32) (p .fits))
 
 -- ---- words of digits
 
@@ -157,6 +162,17 @@ list-text (b ∷ t) e = numbers (numbers-text (b ∷ t) e)
 
 -- ---- the chemist's sentences
 
+-- a plain number that begins with 0 is the digit 0
+pub zero-alone : (b : ℕ) (v : List ℕ) → PlainNumber (b ∷ v) → b ≡ 48 → b ∷ v ≡ 48 ∷ []
+zero-alone b v p first =
+    let alone : (eqb (suc (length v)) 1 || not (eqb b 48)) ≡ true = p .no-zero-first in
+    ap (λ (x : ℕ). x ∷ v) first ∙ ap (λ (u : List ℕ). 48 ∷ u) (nothing-else v (eqb (suc (length v)) 1) refl (rw (eq-eqb b 48 first) at alone))
+  where
+    nothing-else : (v : List ℕ) (s : Bool) → eqb (suc (length v)) 1 ≡ s → (s || false) ≡ true → v ≡ []
+    nothing-else [] s e f = refl
+    nothing-else (x ∷ v) true e f = let n = eqb-true (suc (suc (length v))) 1 e in absurd (omega arith)
+    nothing-else (x ∷ v) false e f = absurd (true≢false (sym f))
+
 -- a plain number that is worth 0 is the digit 0
 worth-nothing : (w : List ℕ) → PlainNumber w → worth 10 0 w ≡ 0 → w ≡ 48 ∷ []
 unfolding allDigits worth
@@ -166,17 +182,7 @@ worth-nothing (b ∷ v) p z =
     let d = decimal-digit b (parts .0) in
     let value = digit-worth b d in
     let grows = worth-grows 10 (lit< tt) (0 * 10 + digit b) v in
-    let first : b ≡ 48 = omega arith in
-    let alone : (eqb (suc (length v)) 1 || not (eqb b 48)) ≡ true = p .no-zero-first in
-    go v first (go-alone v (eqb (suc (length v)) 1) refl (rw (eq-eqb b 48 first) at alone))
-  where
-    go-alone : (v : List ℕ) (s : Bool) → eqb (suc (length v)) 1 ≡ s → (s || false) ≡ true → length v ≡ 0
-    go-alone v true e f = let n = eqb-true (suc (length v)) 1 e in omega arith
-    go-alone v false e f = absurd (true≢false (sym f))
-
-    go : (v : List ℕ) → b ≡ 48 → length v ≡ 0 → b ∷ v ≡ 48 ∷ []
-    go [] e n = ap (λ (x : ℕ). x ∷ []) e
-    go (x ∷ v) e n = absurd (omega arith)
+    zero-alone b v p (omega arith)
 
 some-number : {t ns : List ℕ} → NumbersText t ns → ns ≡ [] → ⊥
 some-number (one w e) z = cons≢nil z

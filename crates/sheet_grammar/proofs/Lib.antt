@@ -3,3 +3,4 @@ pub mod Contents
 pub mod Bare
 pub mod OneField
 pub mod Accepted
+pub mod Numbers
