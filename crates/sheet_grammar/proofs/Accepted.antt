@@ -29,7 +29,7 @@ contents-add zero b t = rw (zero-add b)
 contents-add (suc a) b t = rw (suc-add a b) (ap (λ (cs : List (List ℕ)). content t ∷ cs) (contents-add a b (after t)))
 
 -- one row more
-one-row : (rows columns : ℕ) → suc rows * columns ≡ columns + rows * columns
+pub one-row : (rows columns : ℕ) → suc rows * columns ≡ columns + rows * columns
 one-row rows columns = suc-mul rows columns ∙ add-comm (rows * columns) columns
 
 -- ---- what is accepted is of the grammar

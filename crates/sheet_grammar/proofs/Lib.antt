@@ -4,3 +4,5 @@ pub mod Bare
 pub mod OneField
 pub mod Accepted
 pub mod Numbers
+pub mod Offsets
+pub mod RoundTrip
