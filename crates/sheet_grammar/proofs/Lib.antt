@@ -6,3 +6,5 @@ pub mod Accepted
 pub mod Numbers
 pub mod Offsets
 pub mod RoundTrip
+pub mod FromSheetToSet
+pub mod Quoting
