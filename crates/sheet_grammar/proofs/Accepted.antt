@@ -1,20 +1,19 @@
 -- The reader accepts exactly the sheets of the grammar, with their contents and their lists. Assumes nothing.
-use Prim.Native.Nat.{ℕ, zero, suc, _+_, _*_, _≤_, _<_}
-use mathlib.Core.Path.{_≡_, refl, sym, _∙_, ap, ap₂, subst, subst₂}
-use mathlib.Core.Bool.{Bool, true, false, cond, _&&_, true≢false}
+use Prim.Native.Nat.{ℕ, zero, suc, _+_, _*_, _≤_}
+use mathlib.Core.Path.{_≡_, refl, sym, _∙_, ap, subst, subst₂}
+use mathlib.Core.Bool.{Bool, true, false, cond, true≢false}
 use mathlib.Core.List.{List, [], _∷_, _++_, append-assoc, append-nil}
 use native.Mathlib.Nat.{zero-mul, suc-mul, add-comm, zero-add, suc-add}
 use native.Mathlib.Omega.{arith}
 use lib.Dec.{eqb, ltb}
 use lib.ListN.{length, length-append}
-use borrow.Author.Tests.{eqb-true, eqb-false, lt-ltb, eq-eqb, ne-eqb}
+use borrow.Author.Tests.{eqb-true, eqb-false, lt-ltb, ne-eqb}
 use Rattle.sheet_fields.specs.Fields.{field, content, after}
 use Rattle.number_lists.specs.NumberLists.{isList, listIn}
 use Rattle.sheet_cells.specs.Cells.{isCell, cells, past, goesOn, rowFault, place, sheetFault}
-use Rattle.sheet_cells.specs.declared.Place.{Place}
 use Rattle.sheet_grammar.specs.Contents.{contents}
-use Rattle.sheet_grammar.specs.Grammar.{FieldText, RecordText, last, comma, LineEnd, lf, crlf, SheetText, none, line, open-ended}
-use Rattle.sheet_grammar.proofs.OneField.{Separator, at-end, at-comma, at-line, Begins, field-read, Cell, cell-text, cell-read}
+use Rattle.sheet_grammar.specs.Grammar.{RecordText, last, comma, LineEnd, lf, crlf, SheetText, none, line, open-ended}
+use Rattle.sheet_grammar.proofs.OneField.{Separator, at-end, at-comma, at-line, Begins, field-read, cell-text, cell-read}
 
 -- ---- the fields after some fields
 

@@ -1,5 +1,5 @@
 -- A content that is a list has no byte with a meaning of its own: no comma, quote, CR or LF. Assumes nothing.
-use Prim.Native.Nat.{ℕ, suc, _+_}
+use Prim.Native.Nat.{ℕ, suc}
 use mathlib.Core.Path.{_≡_, refl, sym, _∙_, ap}
 use mathlib.Core.Bool.{Bool, true, false, cond, not, _&&_, _||_, true≢false}
 use mathlib.Core.List.{List, [], _∷_, _++_}
@@ -10,9 +10,8 @@ use borrow.Author.Tests.{ne-eqb}
 use Rattle.entries.proofs.Same.{both}
 use Rattle.case_numbers.specs.Digits.{digit, allDigits}
 use Rattle.sheet_fields.specs.Fields.{isPlain, plainLength, quotedLength, unquoted, isQuoted}
-use Rattle.number_lists.specs.NumberLists.{isPlainNumber}
 use Rattle.sheet_grammar.specs.Grammar.{NumbersText, one, another, ListText, nothing, numbers}
-use Rattle.sheet_grammar.proofs.Bytes.{Between, decimal-digit}
+use Rattle.sheet_grammar.proofs.Bytes.{decimal-digit}
 use Rattle.sheet_grammar.proofs.Contents.{plain-number}
 
 -- each byte is plain

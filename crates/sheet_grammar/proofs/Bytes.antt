@@ -1,14 +1,12 @@
 -- Digits are none of the bytes that a sheet gives a meaning: no space, comma, quote, CR or LF. Assumes nothing.
-use Prim.Native.Nat.{ℕ, _+_, _-_, _≤_, _<_}
-use mathlib.Core.Path.{_≡_, refl, sym, _∙_}
+use Prim.Native.Nat.{ℕ, _-_, _≤_, _<_}
+use mathlib.Core.Path.{_≡_, refl, sym}
 use mathlib.Core.Bool.{Bool, true, false, cond, _&&_, true≢false}
-use mathlib.Core.List.{List, [], _∷_, _++_}
 use native.Mathlib.Omega.{arith}
-use lib.Dec.{eqb, ltb, leb}
-use lib.ListN.{length}
-use borrow.Author.Tests.{ltb-true, leb-true, lt-ltb, le-leb, ne-eqb}
+use lib.Dec.{ltb, leb}
+use borrow.Author.Tests.{ltb-true, leb-true, lt-ltb, le-leb}
 use Rattle.entries.proofs.Same.{both}
-use Rattle.case_numbers.specs.Digits.{digit, allDigits}
+use Rattle.case_numbers.specs.Digits.{digit}
 
 -- what a test leaves where it is passed
 pub record Between (low high b : ℕ) : Type 0 where

@@ -1,7 +1,7 @@
 -- A content is a list exactly where the grammar says so, and the numbers read are the grammar's; `0` alone reads as 0, nothing alone as
 -- the empty list. Assumes nothing.
-use Prim.Native.Nat.{ℕ, zero, suc, _+_, _-_, _*_, _^_, _≤_, _<_}
-use mathlib.Core.Path.{_≡_, refl, sym, _∙_, ap, ap₂, subst}
+use Prim.Native.Nat.{ℕ, suc, _+_, _*_, _^_, _≤_, _<_}
+use mathlib.Core.Path.{_≡_, refl, sym, _∙_, ap, subst}
 use mathlib.Core.Bool.{Bool, true, false, cond, not, _&&_, _||_, true≢false}
 use mathlib.Core.List.{List, [], _∷_, _++_, map, nil≢cons, cons≢nil, head-eq-of-cons-eq, tail-eq-of-cons-eq}
 use native.Mathlib.Omega.{arith}
@@ -13,7 +13,7 @@ use Rattle.case_numbers.specs.Digits.{digit, allDigits, worth}
 use Rattle.case_numbers.proofs.Worth.{worth-grows}
 use Rattle.number_lists.specs.NumberLists.{joined, words, isPlainNumber, areNumbers, valueOf, isList, listIn}
 use Rattle.sheet_grammar.specs.Grammar.{NumbersText, one, another, ListText, nothing, numbers}
-use Rattle.sheet_grammar.proofs.Bytes.{Between, decimal-digit, digit-worth}
+use Rattle.sheet_grammar.proofs.Bytes.{decimal-digit, digit-worth}
 
 -- ---- what a plain number is
 

@@ -1,7 +1,7 @@
 -- From the bytes of a sheet to the sets of its bays: a field `0` keeps its bay empty, a field without content restricts nothing. Assumes nothing.
-use Prim.Native.Nat.{ℕ, zero, suc, _+_, _*_, _≤_, _<_}
-use mathlib.Core.Path.{_≡_, refl, sym, _∙_, ap, subst}
-use mathlib.Core.Bool.{Bool, true, false, not, _&&_}
+use Prim.Native.Nat.{ℕ, zero, suc, _*_, _≤_, _<_}
+use mathlib.Core.Path.{_≡_, refl, sym, _∙_, ap}
+use mathlib.Core.Bool.{true, false, not, _&&_}
 use mathlib.Core.List.{List, [], _∷_, _++_}
 use native.Mathlib.Omega.{arith}
 use lib.ListN.{length, getD, take, drop}
@@ -12,7 +12,6 @@ use Rattle.entries.proofs.Same.{both}
 use Rattle.units.specs.Kelvin.{inKelvinRange}
 use Rattle.units.specs.Refusals.{Verdict, passes, _▷_, ifPasses}
 use Rattle.units.proofs.Verdicts.{first-passes, no-fault}
-use Rattle.sets.specs.Set.{word}
 use Rattle.sdc2d.specs.System.{System, inRange, sizesFit, lengthsFit, sizesVerdict, gluesVerdict, energiesVerdict, seedsVerdict, systemVerdict}
 use Rattle.bay_lists.specs.Lists.{Constraints, constraints, listOf}
 use Rattle.legal_at.specs.declared.seeds.Seed.the-variants.{Unseeded}
@@ -22,7 +21,7 @@ use Rattle.legal.specs.Sets.{bays, setsOf, shapeVerdict, emptyVerdict, allowedV
 use Rattle.legal.proofs.Seven.{set-of-bay}
 use Rattle.sheet_fields.specs.Fields.{content, after}
 use Rattle.number_lists.specs.NumberLists.{isList, listIn}
-use Rattle.sheet_cells.specs.Cells.{cells, past, sheetFault, allTiles, starts, front}
+use Rattle.sheet_cells.specs.Cells.{cells, allTiles, starts, front}
 use Rattle.sheet.specs.Read.{sheetLists, tileCount, readVerdict, offsetsAfter, tilesAfter}
 use Rattle.sheet_grammar.specs.Contents.{contents}
 use Rattle.sheet_grammar.specs.Grammar.{RecordText, last, comma, SheetText, none, line, open-ended}

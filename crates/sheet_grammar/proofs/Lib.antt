@@ -8,3 +8,4 @@ pub mod Offsets
 pub mod RoundTrip
 pub mod FromSheetToSet
 pub mod Quoting
+pub mod FirstFault

@@ -1,7 +1,7 @@
 -- One field: what the grammar calls a field is read with its content and its end, and what is read is such a field. Assumes nothing.
-use Prim.Native.Nat.{ℕ, suc, _+_, _-_, _≤_, _<_}
+use Prim.Native.Nat.{ℕ, suc, _+_, _-_, _<_}
 use mathlib.Core.Path.{_≡_, refl, sym, _∙_, ap, subst, subst₂}
-use mathlib.Core.Bool.{Bool, true, false, cond, not, _&&_, _||_, true≢false}
+use mathlib.Core.Bool.{Bool, true, false, cond, _&&_, true≢false}
 use mathlib.Core.List.{List, [], _∷_, _++_, append-assoc}
 use native.Mathlib.Nat.{sub-zero}
 use native.Mathlib.Numerals.{add-one, add-two}
@@ -16,7 +16,7 @@ use Rattle.sheet_fields.specs.declared.Ending.{Ending}
 use Rattle.sheet_fields.specs.declared.Field.{Field}
 use Rattle.number_lists.specs.NumberLists.{isList, listIn}
 use Rattle.sheet_cells.specs.Cells.{isCell}
-use Rattle.sheet_grammar.specs.Grammar.{ListText, FieldText, bare, quoted, LineEnd, lf, crlf}
+use Rattle.sheet_grammar.specs.Grammar.{FieldText, bare, quoted, LineEnd, lf, crlf}
 use Rattle.sheet_grammar.proofs.Contents.{list-read, list-text}
 use Rattle.sheet_grammar.proofs.Bare.{Bare, bare-list, bare-unquoted, bare-length, quoted-length, bare-itself, only-itself}
 

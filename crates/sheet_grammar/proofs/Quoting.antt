@@ -10,7 +10,7 @@ use Rattle.sheet_cells.specs.Cells.{allTiles, starts, front}
 use Rattle.sheet.specs.Read.{sheetLists, readVerdict, readAnswer, offsetsAfter, tilesAfter}
 use Rattle.sheet_grammar.specs.Grammar.{RecordText, last, comma, SheetText, none, line, open-ended}
 use Rattle.sheet_grammar.proofs.OneField.{cell-read}
-use Rattle.sheet_grammar.proofs.Accepted.{Reads, complete}
+use Rattle.sheet_grammar.proofs.Accepted.{complete}
 
 map-append : (cs ds : List (List ℕ)) → map listIn (cs ++ ds) ≡ map listIn cs ++ map listIn ds
 map-append [] ds = refl

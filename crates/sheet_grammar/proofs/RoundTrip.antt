@@ -1,31 +1,29 @@
 -- What is written is a sheet of the grammar, and reading it gives the offsets and numbers again. Assumes nothing.
 use Prim.Native.Nat.{ℕ, zero, suc, _+_, _-_, _*_, _^_, _≤_, _<_}
-use mathlib.Core.Path.{_≡_, refl, sym, _∙_, ap, ap₂, subst, subst₂}
-use mathlib.Core.Bool.{Bool, true, false, cond, not, _&&_}
+use mathlib.Core.Path.{_≡_, refl, sym, _∙_, ap, subst, subst₂}
+use mathlib.Core.Bool.{Bool, true, false, not, _&&_}
 use mathlib.Core.List.{List, [], _∷_, _++_, map, append-assoc, append-nil}
-use native.Mathlib.Nat.{zero-mul, suc-mul, add-comm, add-assoc, suc-add, zero-add, add-zero}
-use native.Mathlib.Numerals.{add-one}
+use native.Mathlib.Nat.{zero-mul, suc-add, zero-add, add-zero}
 use native.Mathlib.Omega.{arith}
-use lib.Dec.{eqb, ltb, leb}
+use lib.Dec.{ltb, leb}
 use lib.ListN.{length, getD, take, drop, length-take, List·getD-eq-default}
 use lib.Seq.{getD-take, getD-drop, take-append-seam}
-use borrow.Author.Tests.{ltb-true, ltb-false, le-ltb, leb-true, leb-false, eq-eqb, not-false}
+use borrow.Author.Tests.{le-ltb, leb-true, leb-false, eq-eqb, not-false}
 use Rattle.units.specs.Refusals.{Verdict, passes, refuseIf, _▷_, ifPasses}
 use Rattle.units.proofs.Verdicts.{first-passes, rest-passes, no-fault}
 use Rattle.answer_texts.specs.Puts.{numberText}
 use Rattle.bay_lists.specs.Lists.{Constraints, constraints, listOf, offsetsShaped}
 use Rattle.entries.specs.Entries.{part}
 use Rattle.entries.proofs.Same.{both}
-use Rattle.sheet_cells.specs.Cells.{cells, place, sheetFault, sheetVerdict, allTiles, starts, front}
-use Rattle.sheet_cells.specs.declared.Place.{Place}
+use Rattle.sheet_cells.specs.Cells.{place, sheetFault, allTiles, starts, front}
 use Rattle.sheet_text.specs.Written.{gap, spaced, separator, rowText, sheetText}
 use Rattle.sheet.specs.Read.{isSide, gridVerdict, sheetLists, tileCount, readVerdict, offsetsAfter, tilesAfter}
 use Rattle.sheet.specs.Write.{sheetBytes, bytesNeeded, writeVerdict, textAfter}
 use Rattle.sheet_grammar.specs.Contents.{contents, listsOf}
-use Rattle.sheet_grammar.specs.Grammar.{NumbersText, one, another, ListText, nothing, numbers, FieldText, bare, RecordText, last, comma, LineEnd, crlf, SheetText, none, line}
+use Rattle.sheet_grammar.specs.Grammar.{NumbersText, one, another, ListText, nothing, numbers, bare, RecordText, last, comma, crlf, SheetText, none, line}
 use Rattle.sheet_grammar.proofs.Numbers.{text-worth, text-is-plain}
 use Rattle.sheet_grammar.proofs.Offsets.{same-offsets, same-tiles}
-use Rattle.sheet_grammar.proofs.Accepted.{one-row, Reads, complete}
+use Rattle.sheet_grammar.proofs.Accepted.{one-row, complete}
 
 -- ---- a list as it is written
 
