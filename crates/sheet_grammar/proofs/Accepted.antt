@@ -7,16 +7,19 @@ use native.Mathlib.Nat.{zero-mul, suc-mul, add-comm, zero-add, suc-add}
 use native.Mathlib.Omega.{arith}
 use lib.Dec.{eqb, ltb}
 use lib.ListN.{length, length-append}
-use borrow.Author.Tests.{eqb-true, eqb-false, lt-ltb, ne-eqb}
+use borrow.Author.Tests.{ltb-false, eqb-true, eqb-false, lt-ltb, ne-eqb}
+use Rattle.units.specs.Refusals.{passes}
+use Rattle.units.proofs.Verdicts.{no-fault}
 use Rattle.sheet_fields.specs.Fields.{field, content, after}
 use Rattle.number_lists.specs.NumberLists.{isList, listIn}
-use Rattle.sheet_cells.specs.Cells.{isCell, cells, past, goesOn, rowFault, place, sheetFault}
+use Rattle.sheet_cells.specs.Cells.{isCell, cells, past, goesOn, rowFault, place, sheetFault, sheetVerdict}
 use Rattle.sheet_grammar.specs.Contents.{contents}
 use Rattle.sheet_grammar.specs.Grammar.{RecordText, last, comma, LineEnd, lf, crlf, SheetText, none, line, open-ended}
 use Rattle.sheet_grammar.proofs.OneField.{Separator, at-end, at-comma, at-line, Begins, field-read, cell-text, cell-read}
 
 -- ---- the fields after some fields
 
+-- the lists and the contents of some fields are those of the first and of the rest
 pub cells-add : (a b : ℕ) (t : List ℕ) → cells (a + b) t ≡ cells a t ++ cells b (past a t)
 unfolding cells past
 cells-add zero b t = rw (zero-add b)
@@ -271,3 +274,21 @@ complete {columns = columns} (line {t = t} {cs = cs} {ls = ls} {e = e} {k = k} {
 complete {columns = columns} (open-ended {b = b} {t = t} {cs = cs} {ls = ls} r) =
     subst₂ (λ (ds ms : List (List ℕ)). Reads columns 1 (b ∷ t) ds ms) (append-nil cs) (append-nil ls)
     (then-rows (omega arith) (subst (λ (v : List ℕ). Starts columns v cs ls []) (append-nil (b ∷ t)) (record-read r at-end)) (no-row columns))
+
+-- ---- the same of the verdict, and one meaning for each text
+
+-- a sheet that passes is one of the grammar
+pub passed-is-sheet : (rows columns : ℕ) (t : List ℕ) → 1 ≤ columns → sheetVerdict rows columns t ≡ passes
+    → SheetText columns rows t (contents (rows * columns) t) (cells (rows * columns) t)
+passed-is-sheet rows columns t some e =
+    let at = sheetFault columns 1 rows t .line in
+    let first = ltb-false 0 at (no-fault (ltb 0 at) 19 (at ∷ sheetFault columns 1 rows t .field ∷ []) e) in
+    sound columns 1 rows t some (omega arith) (omega arith)
+
+-- and one of the grammar passes
+pub sheet-passes : {columns rows : ℕ} {t : List ℕ} {cs ls : List (List ℕ)} → SheetText columns rows t cs ls → sheetVerdict rows columns t ≡ passes
+sheet-passes s = rw (complete s .no-fault 1)
+
+-- a text has one reading: the grammar gives it no other contents, and no other lists
+pub one-reading : {columns rows : ℕ} {t : List ℕ} {cs ls ds ms : List (List ℕ)} → SheetText columns rows t cs ls → SheetText columns rows t ds ms → (cs ≡ ds) × (ls ≡ ms)
+one-reading p q = (sym (complete p .has) ∙ complete q .has, sym (complete p .lists) ∙ complete q .lists)

@@ -50,6 +50,7 @@ bare-numbers : {t ns : List ℕ} → NumbersText t ns → Bare t
 bare-numbers (one w e) = bare-digits w (plain-number w e .digits)
 bare-numbers (another w e {t = t} r) = bare-append w (32 ∷ t) (bare-digits w (plain-number w e .digits)) (plain-space, bare-numbers r)
 
+-- a content that is a list is bare
 pub bare-list : {t ns : List ℕ} → ListText t ns → Bare t
 bare-list nothing = tt
 bare-list (numbers n) = bare-numbers n
@@ -61,6 +62,7 @@ no-quote-in true q r s e = absurd (true≢false (sym e))
 no-quote-in false true r s e = absurd (true≢false (sym e))
 no-quote-in false false r s e = refl
 
+-- a plain byte is no quote
 pub no-quote : (b : ℕ) → isPlain b ≡ true → eqb b 34 ≡ false
 unfolding isPlain
 no-quote b e = no-quote-in (eqb b 44) (eqb b 34) (eqb b 13) (eqb b 10) e

@@ -8,7 +8,7 @@ use borrow.Author.Tests.{ltb-true, leb-true, lt-ltb, le-leb}
 use Rattle.entries.proofs.Same.{both}
 use Rattle.case_numbers.specs.Digits.{digit}
 
--- what a test leaves where it is passed
+-- a byte from one on and below another
 pub record Between (low high b : ℕ) : Type 0 where
   pub least : low ≤ b
   pub most : b < high

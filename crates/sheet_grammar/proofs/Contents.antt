@@ -17,12 +17,14 @@ use Rattle.sheet_grammar.proofs.Bytes.{decimal-digit, digit-worth}
 
 -- ---- what a plain number is
 
+-- a digit or more, no 0 in front of another digit, below 2^32
 pub record PlainNumber (w : List ℕ) : Type 0 where
   pub some : 1 ≤ length w
   pub digits : allDigits 10 w ≡ true
   pub no-zero-first : (eqb (length w) 1 || not (eqb (getD w 0 0) 48)) ≡ true
   pub fits : worth 10 0 w < 2 ^ 32
 
+-- the test says so, and nothing else
 pub plain-number : (w : List ℕ) → isPlainNumber w ≡ true → PlainNumber w
 unfolding isPlainNumber
 plain-number w e =

@@ -23,7 +23,7 @@ use Rattle.sheet_fields.specs.Fields.{content, after}
 use Rattle.number_lists.specs.NumberLists.{isList, listIn}
 use Rattle.sheet_cells.specs.Cells.{cells, allTiles, starts, front}
 use Rattle.sheet.specs.Read.{sheetLists, tileCount, readVerdict, offsetsAfter, tilesAfter}
-use Rattle.sheet_grammar.specs.Contents.{contents}
+use Rattle.sheet_grammar.specs.Contents.{contents, sheetConstraints, bayContent}
 use Rattle.sheet_grammar.specs.Grammar.{RecordText, last, comma, SheetText, none, line, open-ended}
 use Rattle.sheet_grammar.proofs.Contents.{0-reads-as-0, only-0-reads-as-0, nothing-reads-as-empty, only-nothing-reads-as-empty}
 use Rattle.sheet_grammar.proofs.OneField.{cell-read}
@@ -43,14 +43,6 @@ unfolding cells contents
 cell-at zero t i h = absurd (omega arith)
 cell-at (suc n) t zero h = refl
 cell-at (suc n) t (suc i) h = cell-at n (after t) i (omega arith)
-
--- the constraints that a sheet's lists are
-abbrev pub sheetConstraints : (rows columns : ℕ) → List ℕ → Constraints
-sheetConstraints rows columns text = constraints true (starts 0 (sheetLists rows columns text)) (allTiles (sheetLists rows columns text))
-
--- the content of a bay's field
-abbrev pub bayContent : (rows columns : ℕ) → List ℕ → (bay : ℕ) → List ℕ
-bayContent rows columns text bay = getD (contents (rows * columns) text) bay []
 
 -- the list of a bay is what its field's content reads as
 pub list-of-field : (rows columns : ℕ) (text : List ℕ) (bay : ℕ) → bay < rows * columns
@@ -128,6 +120,7 @@ module _ (s : System) (text : List ℕ) (bay : ℕ) (inside : bay < bays (s .siz
     abbrev left : Constraints
     left = constraints true (offsetsAfter rows columns text o t) (take (tileCount rows columns text) (tilesAfter rows columns text o t))
 
+    -- they are the constraints that the sheet's lists are
     pub left-is : left ≡ sheetConstraints rows columns text
     left-is =
         let numbers = allTiles (sheetLists rows columns text) in

@@ -24,6 +24,7 @@ unfolding starts
 starts-some n [] = refl
 starts-some n (l ∷ ls) = refl
 
+-- there is one offset more than lists
 pub length-starts : (n : ℕ) (ls : List (List ℕ)) → length (starts n ls) ≡ length ls + 1
 unfolding starts
 length-starts n [] = refl
