@@ -1,0 +1,154 @@
+-- From the bytes of a sheet to the sets of its bays: a field `0` keeps its bay empty, a field without content restricts nothing. Assumes nothing.
+use Prim.Native.Nat.{ℕ, zero, suc, _*_, _≤_, _<_}
+use mathlib.Core.Path.{_≡_, refl, sym, _∙_, ap}
+use mathlib.Core.Bool.{true, false, not, _&&_}
+use mathlib.Core.List.{List, [], _∷_, _++_}
+use native.Mathlib.Omega.{arith}
+use lib.ListN.{length, getD, take, drop}
+use lib.Seq.{take-append-seam}
+use lib.Dec.{leb}
+use borrow.Author.Tests.{leb-true, not-false}
+use Rattle.entries.proofs.Same.{both}
+use Rattle.units.specs.Kelvin.{inKelvinRange}
+use Rattle.units.specs.Refusals.{Verdict, passes, _▷_, ifPasses}
+use Rattle.units.proofs.Verdicts.{first-passes, no-fault}
+use Rattle.sdc2d.specs.System.{System, inRange, sizesFit, lengthsFit, sizesVerdict, gluesVerdict, energiesVerdict, seedsVerdict, systemVerdict}
+use Rattle.bay_lists.specs.Lists.{Constraints, constraints, listOf}
+use Rattle.legal_at.specs.declared.seeds.Seed.the-variants.{Unseeded}
+use Rattle.legal_at.specs.Legal.{seedAt, isLegal, setAt}
+use Rattle.legal_at.proofs.ChemistsQuestion.{keep-it-empty, no-restriction}
+use Rattle.legal.specs.Sets.{bays, setsOf, shapeVerdict, emptyVerdict, allowedVerdict, setsAfter}
+use Rattle.legal.proofs.Seven.{set-of-bay}
+use Rattle.sheet_fields.specs.Fields.{content, after}
+use Rattle.number_lists.specs.NumberLists.{isList, listIn}
+use Rattle.sheet_cells.specs.Cells.{cells, allTiles, starts, front}
+use Rattle.sheet.specs.Read.{sheetLists, tileCount, readVerdict, offsetsAfter, tilesAfter}
+use Rattle.sheet_grammar.specs.Contents.{contents, sheetConstraints, bayContent}
+use Rattle.sheet_grammar.specs.Grammar.{RecordText, last, comma, SheetText, none, line, open-ended}
+use Rattle.sheet_grammar.proofs.Contents.{0-reads-as-0, only-0-reads-as-0, nothing-reads-as-empty, only-nothing-reads-as-empty}
+use Rattle.sheet_grammar.proofs.OneField.{cell-read}
+use Rattle.sheet_grammar.proofs.Accepted.{NoFault, sound}
+use Rattle.sheet_grammar.proofs.Offsets.{list-of-starts}
+
+-- ---- the field of a bay
+
+length-cells : (n : ℕ) (t : List ℕ) → length (cells n t) ≡ n
+unfolding cells
+length-cells zero t = refl
+length-cells (suc n) t = ap suc (length-cells n (after t))
+
+-- the list at a place is what the content there reads as
+cell-at : (n : ℕ) (t : List ℕ) (i : ℕ) → i < n → getD (cells n t) i [] ≡ listIn (getD (contents n t) i [])
+unfolding cells contents
+cell-at zero t i h = absurd (omega arith)
+cell-at (suc n) t zero h = refl
+cell-at (suc n) t (suc i) h = cell-at n (after t) i (omega arith)
+
+-- the list of a bay is what its field's content reads as
+pub list-of-field : (rows columns : ℕ) (text : List ℕ) (bay : ℕ) → bay < rows * columns
+    → listOf (sheetConstraints rows columns text) bay ≡ listIn (bayContent rows columns text bay)
+list-of-field rows columns text bay h =
+    let long = length-cells (rows * columns) text in
+    list-of-starts (sheetLists rows columns text) bay (omega arith) ∙ cell-at (rows * columns) text bay h
+
+-- ---- each content of a sheet without a fault is a list
+
+AllLists : List (List ℕ) → Type 0
+AllLists [] = Unit {0}
+AllLists (c ∷ cs) = (isList c ≡ true) × AllLists cs
+
+lists-append : (cs ds : List (List ℕ)) → AllLists cs → AllLists ds → AllLists (cs ++ ds)
+unfolding AllLists
+lists-append [] ds p q = q
+lists-append (c ∷ cs) ds p q = (p .0, lists-append cs ds (p .1) q)
+
+lists-at : (cs : List (List ℕ)) (i : ℕ) → AllLists cs → isList (getD cs i []) ≡ true
+unfolding AllLists
+lists-at [] i p = nothing-reads-as-empty .0
+lists-at (c ∷ cs) zero p = p .0
+lists-at (c ∷ cs) (suc i) p = lists-at cs i (p .1)
+
+record-lists : {k : ℕ} {t : List ℕ} {cs ls : List (List ℕ)} → RecordText k t cs ls → AllLists cs
+unfolding AllLists
+record-lists (last f) = (cell-read f .0, tt)
+record-lists (comma f r) = (cell-read f .0, record-lists r)
+
+sheet-lists : {columns rows : ℕ} {t : List ℕ} {cs ls : List (List ℕ)} → SheetText columns rows t cs ls → AllLists cs
+unfolding AllLists
+sheet-lists none = tt
+sheet-lists (line {cs = cs} {ds = ds} r e s) = lists-append cs ds (record-lists r) (sheet-lists s)
+sheet-lists (open-ended r) = record-lists r
+
+module _ (rows columns : ℕ) (text : List ℕ) (some : 1 ≤ columns) (e : NoFault columns 1 rows text) (bay : ℕ) (h : bay < rows * columns) where
+  is-list : isList (bayContent rows columns text bay) ≡ true
+  is-list = lists-at (contents (rows * columns) text) bay (sheet-lists (sound columns 1 rows text some (omega arith) e))
+
+  -- of a sheet without a fault, a bay has the list 0 only where its field's content is the byte `0`
+  pub only-field-0 : listOf (sheetConstraints rows columns text) bay ≡ 0 ∷ [] → bayContent rows columns text bay ≡ 48 ∷ []
+  only-field-0 l = only-0-reads-as-0 (bayContent rows columns text bay) is-list (sym (list-of-field rows columns text bay h) ∙ l)
+
+  -- and the empty list only where its field has no content
+  pub only-field-nothing : listOf (sheetConstraints rows columns text) bay ≡ [] → bayContent rows columns text bay ≡ []
+  only-field-nothing l = only-nothing-reads-as-empty (bayContent rows columns text bay) is-list (sym (list-of-field rows columns text bay h) ∙ l)
+
+-- ---- the set of a bay
+
+module _ (s : System) (text : List ℕ) (bay : ℕ) (inside : bay < bays (s .sizes)) where
+  abbrev rows : ℕ
+  rows = s .sizes .rows
+
+  abbrev columns : ℕ
+  columns = s .sizes .cols
+
+  -- an unseeded bay whose field is `0` has the set {0}, the number 1: it stays empty
+  pub field-0-keeps-empty : 1 ≤ s .sizes .strands → seedAt columns (s .seeds) bay ≡ Unseeded → bayContent rows columns text bay ≡ 48 ∷ []
+      → setAt s (sheetConstraints rows columns text) bay ≡ 1
+  field-0-keeps-empty some unseeded e =
+      keep-it-empty s (sheetConstraints rows columns text) bay unseeded some
+      (list-of-field rows columns text bay inside ∙ ap listIn e ∙ 0-reads-as-0 .1)
+
+  -- a bay whose field has no content has the set that it has without constraints
+  pub no-content-restricts-nothing : bayContent rows columns text bay ≡ [] → (offsets tiles : List ℕ)
+      → setAt s (sheetConstraints rows columns text) bay ≡ setAt s (constraints false offsets tiles) bay
+  no-content-restricts-nothing e offsets tiles =
+      no-restriction s (sheetConstraints rows columns text) bay (list-of-field rows columns text bay inside ∙ ap listIn e ∙ nothing-reads-as-empty .1) offsets tiles
+
+  -- ---- from call to call: what the reading call leaves, handed to the call that finds the sets
+
+  module _ (o t : List ℕ) (read : readVerdict rows columns text o t ≡ passes) where
+    -- the offsets that it leaves, and as many numbers as it counts
+    abbrev left : Constraints
+    left = constraints true (offsetsAfter rows columns text o t) (take (tileCount rows columns text) (tilesAfter rows columns text o t))
+
+    -- they are the constraints that the sheet's lists are
+    pub left-is : left ≡ sheetConstraints rows columns text
+    left-is =
+        let numbers = allTiles (sheetLists rows columns text) in
+        ap
+        (λ (v : Verdict). constraints true (ifPasses v (starts 0 (sheetLists rows columns text)) o) (take (tileCount rows columns text) (ifPasses v (front numbers t) t))) read
+        ∙ ap (λ (l : List ℕ). constraints true (starts 0 (sheetLists rows columns text)) l) (take-append-seam numbers (drop (length numbers) t))
+
+    -- where both calls pass, the lent slice of sets has 1 at an unseeded bay whose field is `0`
+    module _ (sets : List ℕ) (found : allowedVerdict s (length sets) left ≡ passes) where
+      set-left : getD (setsAfter s left sets) bay 0 ≡ setAt s left bay
+      set-left = ap (λ (v : Verdict). getD (ifPasses v (setsOf s left) sets) bay 0) found ∙ set-of-bay (isLegal s left) (bays (s .sizes)) bay inside
+
+      some-strand : 1 ≤ s .sizes .strands
+      some-strand =
+          let z = s .sizes in
+          let glues-on = gluesVerdict (z .glues) (s .strandGlues) (s .scaffold) ▷ energiesVerdict (s .deltaG) (s .entropy) (s .logs) ▷ seedsVerdict z (s .seeds) in
+          let sets-on = shapeVerdict z (length sets) left ▷ emptyVerdict (z .rows) (z .cols) (setsOf s left) in
+          let sizes = first-passes (sizesVerdict s) glues-on (first-passes (systemVerdict s) sets-on found) in
+          let fit = both (sizesFit z) (lengthsFit s) (not-false (sizesFit z && lengthsFit s) (no-fault (not (sizesFit z && lengthsFit s)) 1 [] sizes)) .0 in
+          let others = inRange (z .glues) 256 && inKelvinRange (z .kelvin) in
+          let past-rows = both (inRange (z .rows) 32) (inRange (z .cols) 32 && (inRange (z .strands) 64 && others)) fit .1 in
+          let past-cols = both (inRange (z .cols) 32) (inRange (z .strands) 64 && others) past-rows .1 in
+          leb-true 1 (z .strands) (both (leb 1 (z .strands)) (leb (z .strands) 64) (both (inRange (z .strands) 64) others past-cols .0) .0)
+
+      pub sheet-keeps-empty : seedAt columns (s .seeds) bay ≡ Unseeded → bayContent rows columns text bay ≡ 48 ∷ [] → getD (setsAfter s left sets) bay 0 ≡ 1
+      sheet-keeps-empty unseeded e = set-left ∙ ap (λ (c : Constraints). setAt s c bay) left-is ∙ field-0-keeps-empty some-strand unseeded e
+
+      -- and at a bay whose field has no content the set that the bay has without constraints
+      pub sheet-restricts-nothing : bayContent rows columns text bay ≡ [] → (offsets tiles : List ℕ)
+          → getD (setsAfter s left sets) bay 0 ≡ setAt s (constraints false offsets tiles) bay
+      sheet-restricts-nothing e offsets tiles = set-left ∙ ap (λ (c : Constraints). setAt s c bay) left-is ∙ no-content-restricts-nothing e offsets tiles

@@ -1,0 +1,11 @@
+pub mod Bytes
+pub mod Contents
+pub mod Bare
+pub mod OneField
+pub mod Accepted
+pub mod Numbers
+pub mod Offsets
+pub mod RoundTrip
+pub mod FromSheetToSet
+pub mod Quoting
+pub mod FirstFault

@@ -1,0 +1,28 @@
+-- The contents of the fields that a text begins with, the lists of the bays from one on, both in reading order, and what a sheet says of a
+-- bay. Assumes nothing.
+use Prim.Native.Nat.{ℕ, zero, suc, _+_, _*_}
+use mathlib.Core.Bool.{true}
+use mathlib.Core.List.{List, [], _∷_}
+use lib.ListN.{getD}
+use Rattle.bay_lists.specs.Lists.{Constraints, constraints, listOf}
+use Rattle.sheet_fields.specs.Fields.{content, after}
+use Rattle.sheet_cells.specs.Cells.{allTiles, starts}
+use Rattle.sheet.specs.Read.{sheetLists}
+
+-- of so many fields, quotes taken off
+unfoldable pub contents : ℕ → List ℕ → List (List ℕ)
+contents zero t = []
+contents (suc k) t = content t ∷ contents k (after t)
+
+-- of so many bays
+unfoldable pub listsOf : Constraints → (bay count : ℕ) → List (List ℕ)
+listsOf c bay zero = []
+listsOf c bay (suc k) = listOf c bay ∷ listsOf c (bay + 1) k
+
+-- the constraints that a sheet's lists are
+abbrev pub sheetConstraints : (rows columns : ℕ) → List ℕ → Constraints
+sheetConstraints rows columns text = constraints true (starts 0 (sheetLists rows columns text)) (allTiles (sheetLists rows columns text))
+
+-- the content of a bay's field
+abbrev pub bayContent : (rows columns : ℕ) → List ℕ → (bay : ℕ) → List ℕ
+bayContent rows columns text bay = getD (contents (rows * columns) text) bay []
