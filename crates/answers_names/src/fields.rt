@@ -24,7 +24,7 @@ pub(crate) fn at_most(n: usize, limit: usize) -> usize
     if n < limit { n } else { limit }
 }
 
-// A product of two numbers, each taken for 257 where it is larger: no side that a case lends is longer.
+// A product of two numbers, each taken for 257 where it is larger, which is past every limit.
 pub(crate) fn product(a: usize, b: usize) -> usize {
     let rows = at_most(a, 257);
     let cols = at_most(b, 257);
