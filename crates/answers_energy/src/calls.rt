@@ -41,10 +41,11 @@ fn state_g_read(
     answers::energy(out, answer)
 }
 
-pub(crate) fn state_g(
+// Reads the fields of a case; the matrices are room for the system's.
+fn state_g_into(
     line: &[u8],
-    delta_g: &mut [f64],
-    entropy: &mut [f64],
+    delta_g: &mut [f64; 66049],
+    entropy: &mut [f64; 66049],
     out: &mut [u8],
 ) -> usize {
     let mut strand_glues = [0u32; 325];
@@ -74,4 +75,10 @@ pub(crate) fn state_g(
         &layout,
         out,
     )
+}
+
+pub(crate) fn state_g(line: &[u8], out: &mut [u8]) -> usize {
+    let mut delta_g = [0.0; 66049];
+    let mut entropy = [0.0; 66049];
+    state_g_into(line, &mut delta_g, &mut entropy, out)
 }

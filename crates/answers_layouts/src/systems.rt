@@ -1,15 +1,17 @@
 // A system and its constraints are read from their line, and a run is asked of them.
-use crate::run::layout_made;
+use crate::run::run;
+use crate::run::table_length;
 use answer_lines::unreadable;
 use case_text::first_floats;
 use case_text::first_numbers;
 use case_text::first_small_numbers;
 use system_text::ConstraintsRead;
 use system_text::SystemRead;
+use system_text::bays;
 use system_text::read_constraints;
 use system_text::read_system;
 
-// The fields of the system and of the constraints are read.
+// The fields of the system and of the constraints are read; tables of sevens are lent.
 fn all_read(
     line: &[u8],
     read: SystemRead,
@@ -31,7 +33,10 @@ fn all_read(
         return unreadable(out);
     }
     let z = read.sizes;
-    layout_made(
+    let mut layout = [7u32; 1089];
+    let mut energies = [7.0; 32768];
+    let mut leaving = [7u8; 32768];
+    run(
         line,
         z,
         first_small_numbers(strand_glues, read.strand_glues),
@@ -43,15 +48,19 @@ fn all_read(
         lists.constrained,
         first_numbers(offsets, lists.offsets),
         first_small_numbers(tiles, lists.tiles),
+        table_length(line, b"layout_length", bays(z)),
+        &mut layout,
+        &mut energies,
+        &mut leaving,
         out,
     )
 }
 
-// The answer to a case: the layout of least energy of its system, with the ledger.
-pub(crate) fn answer_system(
+// Reads the fields of a case; the matrices are room for the system's.
+fn system_into(
     line: &[u8],
-    delta_g: &mut [f64],
-    entropy: &mut [f64],
+    delta_g: &mut [f64; 66049],
+    entropy: &mut [f64; 66049],
     out: &mut [u8],
 ) -> usize {
     let mut strand_glues = [0u32; 325];
@@ -84,4 +93,11 @@ pub(crate) fn answer_system(
         &tiles,
         out,
     )
+}
+
+// The answer to a case: the layout of least energy of its system, with the ledger.
+pub(crate) fn answer_system(line: &[u8], out: &mut [u8]) -> usize {
+    let mut delta_g = [0.0; 66049];
+    let mut entropy = [0.0; 66049];
+    system_into(line, &mut delta_g, &mut entropy, out)
 }

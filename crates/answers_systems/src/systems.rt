@@ -77,12 +77,12 @@ fn system_read(
     )
 }
 
-// The answer to a case: the bonds of its system, or the sets of legal strands.
-pub(crate) fn answer_system(
+// Reads the fields of a case; the matrices are room for the system's.
+fn system_into(
     line: &[u8],
     bonds: bool,
-    delta_g: &mut [f64],
-    entropy: &mut [f64],
+    delta_g: &mut [f64; 66049],
+    entropy: &mut [f64; 66049],
     out: &mut [u8],
 ) -> usize {
     let mut strand_glues = [0u32; 325];
@@ -110,4 +110,11 @@ pub(crate) fn answer_system(
         &seeds,
         out,
     )
+}
+
+// The answer to a case: the bonds of its system, or the sets of legal strands.
+pub(crate) fn answer_system(line: &[u8], bonds: bool, out: &mut [u8]) -> usize {
+    let mut delta_g = [0.0; 66049];
+    let mut entropy = [0.0; 66049];
+    system_into(line, bonds, &mut delta_g, &mut entropy, out)
 }
