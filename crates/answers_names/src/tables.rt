@@ -20,3 +20,8 @@ pub(crate) fn all_numbers(table: &[usize], from: usize, value: usize) -> bool {
     }
     true
 }
+
+// Whether each place of the three tables that `register` is lent still holds 7.
+pub(crate) fn all_sevens(glues: &[u32], scaffold: &[u32], bases: &[usize]) -> bool {
+    all_small_numbers(glues, 7) && all_small_numbers(scaffold, 7) && all_numbers(bases, 0, 7)
+}
