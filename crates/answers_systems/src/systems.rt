@@ -5,12 +5,12 @@ use answer_lines::unreadable;
 use case_text::first_floats;
 use case_text::first_small_numbers;
 use sdc2d::Sizes;
-use system_text::SystemRead;
 use system_text::read_system;
 
-// The whole system is read; the bonds, or the sets, are asked.
+// The bonds, or the sets, are asked, if the whole system could be read.
 fn ask(
     line: &[u8],
+    readable: bool,
     bonds: bool,
     z: Sizes,
     strand_glues: &[u32],
@@ -21,6 +21,9 @@ fn ask(
     seeds: &[u32],
     out: &mut [u8],
 ) -> usize {
+    if !readable {
+        return unreadable(out);
+    }
     if bonds {
         return answer_bonds(
             z,
@@ -46,37 +49,6 @@ fn ask(
     )
 }
 
-// The fields of the system are read.
-fn system_read(
-    line: &[u8],
-    bonds: bool,
-    read: SystemRead,
-    strand_glues: &[u32; 325],
-    scaffold: &[u32; 1089],
-    delta_g: &[f64],
-    entropy: &[f64],
-    logs: &[f64; 65],
-    seeds: &[u32; 36],
-    out: &mut [u8],
-) -> usize {
-    if !read.readable {
-        return unreadable(out);
-    }
-    let z = read.sizes;
-    ask(
-        line,
-        bonds,
-        z,
-        first_small_numbers(strand_glues, read.strand_glues),
-        first_small_numbers(scaffold, read.scaffold),
-        first_floats(delta_g, read.delta_g),
-        first_floats(entropy, read.entropy),
-        first_floats(logs, read.logs),
-        first_small_numbers(seeds, read.seeds),
-        out,
-    )
-}
-
 // Reads the fields of a case; the matrices are room for the system's.
 fn system_into(
     line: &[u8],
@@ -98,16 +70,18 @@ fn system_into(
         &mut logs,
         &mut seeds,
     );
-    system_read(
+    let z = read.sizes;
+    ask(
         line,
+        read.readable,
         bonds,
-        read,
-        &strand_glues,
-        &scaffold,
-        delta_g,
-        entropy,
-        &logs,
-        &seeds,
+        z,
+        first_small_numbers(&strand_glues, read.strand_glues),
+        first_small_numbers(&scaffold, read.scaffold),
+        first_floats(delta_g, read.delta_g),
+        first_floats(entropy, read.entropy),
+        first_floats(&logs, read.logs),
+        first_small_numbers(&seeds, read.seeds),
         out,
     )
 }
