@@ -4,7 +4,8 @@
     oracle/cases/names.py                      the cases of crates/answers_names/stdin
     oracle/cases/names.py --large N --seed S   N cases of all kinds at random, for comparisons by hand
 
-How many cases each kind has goes to standard error. The cases at 01's limits are in names_limits.py.
+How many cases each kind has goes to standard error. The cases at 01's limits are in names_limits.py. Energy keys are drawn
+here as well, among the names that they go by, and written by keys.py.
 """
 
 import sys
@@ -241,5 +242,10 @@ def any_fields(draw, call):
     return draw.seeds(rows, cols, names, draw.any_seeds(draw.between(0, 9), rows, cols, names))
 
 
+def on_keys(line):
+    """Whether a case is one on energy keys."""
+    return line.split(" ")[0] == "energy_keys"
+
+
 if __name__ == "__main__":
-    generate("names", SECTIONS, any_case, NameDraw)
+    generate("names", SECTIONS, any_case, NameDraw, lambda line: not on_keys(line))

@@ -3,48 +3,49 @@ use crate::answers;
 use answer_lines::unreadable;
 use case_text::first_floats;
 use case_text::first_small_numbers;
-use system_text::ListRead;
-use system_text::SystemRead;
+use sdc2d::Sizes;
 use system_text::read_system;
 use system_text::small_numbers_field;
 
-// The fields of a case are read.
-fn state_g_read(
-    read: SystemRead,
-    layout_read: ListRead,
-    strand_glues: &[u32; 325],
-    scaffold: &[u32; 1089],
+// Whether a system and a layout could be read.
+fn both(system: bool, layout: bool) -> bool {
+    system && layout
+}
+
+// Asks, if the case could be read.
+fn state_g_asked(
+    readable: bool,
+    sizes: Sizes,
+    strand_glues: &[u32],
+    scaffold: &[u32],
     delta_g: &[f64],
     entropy: &[f64],
-    logs: &[f64; 65],
-    seeds: &[u32; 36],
-    layout: &[u32; 1089],
+    logs: &[f64],
+    seeds: &[u32],
+    layout: &[u32],
     out: &mut [u8],
 ) -> usize {
-    if !read.readable {
+    if !readable {
         return unreadable(out);
     }
-    if !layout_read.readable {
-        return unreadable(out);
-    }
-    let sizes = read.sizes;
     let answer = state_energy::state_g(
         sizes,
-        first_small_numbers(strand_glues, read.strand_glues),
-        first_small_numbers(scaffold, read.scaffold),
-        first_floats(delta_g, read.delta_g),
-        first_floats(entropy, read.entropy),
-        first_floats(logs, read.logs),
-        first_small_numbers(seeds, read.seeds),
-        first_small_numbers(layout, layout_read.count),
+        strand_glues,
+        scaffold,
+        delta_g,
+        entropy,
+        logs,
+        seeds,
+        layout,
     );
     answers::energy(out, answer)
 }
 
-pub(crate) fn state_g(
+// Reads the fields of a case; the matrices are room for the system's.
+fn state_g_into(
     line: &[u8],
-    delta_g: &mut [f64],
-    entropy: &mut [f64],
+    delta_g: &mut [f64; 66049],
+    entropy: &mut [f64; 66049],
     out: &mut [u8],
 ) -> usize {
     let mut strand_glues = [0u32; 325];
@@ -62,16 +63,23 @@ pub(crate) fn state_g(
         &mut seeds,
     );
     let layout_read = small_numbers_field(line, b"layout", &mut layout);
-    state_g_read(
-        read,
-        layout_read,
-        &strand_glues,
-        &scaffold,
-        delta_g,
-        entropy,
-        &logs,
-        &seeds,
-        &layout,
+    let sizes = read.sizes;
+    state_g_asked(
+        both(read.readable, layout_read.readable),
+        sizes,
+        first_small_numbers(&strand_glues, read.strand_glues),
+        first_small_numbers(&scaffold, read.scaffold),
+        first_floats(delta_g, read.delta_g),
+        first_floats(entropy, read.entropy),
+        first_floats(&logs, read.logs),
+        first_small_numbers(&seeds, read.seeds),
+        first_small_numbers(&layout, layout_read.count),
         out,
     )
+}
+
+pub(crate) fn state_g(line: &[u8], out: &mut [u8]) -> usize {
+    let mut delta_g = [0.0; 66049];
+    let mut entropy = [0.0; 66049];
+    state_g_into(line, &mut delta_g, &mut entropy, out)
 }

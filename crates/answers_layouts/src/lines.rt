@@ -76,22 +76,24 @@ fn front_cleared(need: usize, energies: &[f64], leaving: &[u8]) -> bool {
     all_floats(first_floats(energies, need), 0, 0.0) && all_bytes(first_bytes(leaving, need), 0, 0)
 }
 
-// What became of the lent slices: as they were, or the needed places of the tables cleared, or something else.
-fn put_state(
-    out: &mut [u8],
-    at: usize,
-    need: usize,
-    layout: &[u32],
-    energies: &[f64],
-    leaving: &[u8],
-) -> usize {
-    if !all_small_numbers(layout, 7) {
-        return put_text(out, at, b" changed");
-    }
-    if rest_kept(0, energies, leaving) {
+// Whether the lent slices are as they were.
+fn all_kept(layout: &[u32], energies: &[f64], leaving: &[u8]) -> bool {
+    all_small_numbers(layout, 7) && rest_kept(0, energies, leaving)
+}
+
+// Whether the needed places of the tables are cleared, and all others as they were.
+fn all_cleared(need: usize, layout: &[u32], energies: &[f64], leaving: &[u8]) -> bool {
+    all_small_numbers(layout, 7)
+        && front_cleared(need, energies, leaving)
+        && rest_kept(need, energies, leaving)
+}
+
+// What became of the lent slices.
+fn put_state(out: &mut [u8], at: usize, kept: bool, cleared: bool) -> usize {
+    if kept {
         return put_text(out, at, b" kept");
     }
-    if front_cleared(need, energies, leaving) && rest_kept(need, energies, leaving) {
+    if cleared {
         return put_text(out, at, b" cleared");
     }
     put_text(out, at, b" changed")
@@ -105,8 +107,10 @@ fn put_refusal(
     energies: &[f64],
     leaving: &[u8],
 ) -> usize {
+    let kept = all_kept(layout, energies, leaving);
+    let cleared = all_cleared(need, layout, energies, leaving);
     let at = refused(out, refusal);
-    put_state(out, at, need, layout, energies, leaving)
+    put_state(out, at, kept, cleared)
 }
 
 // The line of a run that needs so many rows.

@@ -5,7 +5,6 @@ use case_fields::number_or;
 use case_text::Number;
 use sdc2d::Sizes;
 use sdc2d_thermo::mfe_configuration;
-use system_text::bays;
 use units::EnergyAnswer;
 
 // The rows that a refusal 9 names; 0 of any other answer.
@@ -13,6 +12,14 @@ fn rows_named(answer: EnergyAnswer) -> usize {
     match answer {
         EnergyAnswer::Refused(r) => { if r.number == 9 { r.first } else { 0 } }
         EnergyAnswer::Energy(_) => 0,
+    }
+}
+
+// How long a case says that a table is to be, or else the right length; where that could not be read, more than any table of this program holds.
+pub(crate) fn table_length(line: &[u8], key: &[u8], right: usize) -> usize {
+    match number_or(line, key, right) {
+        Number::Of(n) => n as usize,
+        Number::Unreadable => 1048576,
     }
 }
 
@@ -86,94 +93,8 @@ fn run_lent(
     put_run(out, answer, need, layout, energies, leaving)
 }
 
-// Lends as much of the tables as the case says.
-fn tables_lent(
-    z: Sizes,
-    strand_glues: &[u32],
-    scaffold: &[u32],
-    delta_g: &[f64],
-    entropy: &[f64],
-    logs: &[f64],
-    seeds: &[u32],
-    constrained: bool,
-    offsets: &[usize],
-    tiles: &[u32],
-    need: usize,
-    layout: &mut [u32],
-    energies: &mut [f64],
-    energies_length: usize,
-    leaving: &mut [u8],
-    leaving_length: usize,
-    out: &mut [u8],
-) -> usize {
-    if energies.len() < energies_length {
-        return unreadable(out);
-    }
-    if leaving.len() < leaving_length {
-        return unreadable(out);
-    }
-    run_lent(
-        z,
-        strand_glues,
-        scaffold,
-        delta_g,
-        entropy,
-        logs,
-        seeds,
-        constrained,
-        offsets,
-        tiles,
-        need,
-        layout,
-        &mut energies[..energies_length],
-        &mut leaving[..leaving_length],
-        out,
-    )
-}
-
-// Makes the tables.
-fn tables_made(
-    z: Sizes,
-    strand_glues: &[u32],
-    scaffold: &[u32],
-    delta_g: &[f64],
-    entropy: &[f64],
-    logs: &[f64],
-    seeds: &[u32],
-    constrained: bool,
-    offsets: &[usize],
-    tiles: &[u32],
-    need: usize,
-    layout: &mut [u32],
-    energies_length: usize,
-    leaving_length: usize,
-    out: &mut [u8],
-) -> usize {
-    let mut energies = [7.0f64; 32768];
-    let mut leaving = [7u8; 32768];
-    tables_lent(
-        z,
-        strand_glues,
-        scaffold,
-        delta_g,
-        entropy,
-        logs,
-        seeds,
-        constrained,
-        offsets,
-        tiles,
-        need,
-        layout,
-        &mut energies,
-        energies_length,
-        &mut leaving,
-        leaving_length,
-        out,
-    )
-}
-
-// Asks for the need, and reads how long the tables are to be.
-fn lengths_read(
+// Asks for the need, and then for the run with as much of the ledger as the case says.
+fn ledger_lent(
     line: &[u8],
     z: Sizes,
     strand_glues: &[u32],
@@ -186,6 +107,8 @@ fn lengths_read(
     offsets: &[usize],
     tiles: &[u32],
     layout: &mut [u32],
+    energies: &mut [f64],
+    leaving: &mut [u8],
     out: &mut [u8],
 ) -> usize {
     let need = need_of(
@@ -201,13 +124,15 @@ fn lengths_read(
         tiles,
         layout,
     );
-    let Number::Of(energies_length) = number_or(line, b"energies_length", need) else {
+    let rows = table_length(line, b"energies_length", need);
+    let notes = table_length(line, b"leaving_length", need);
+    if energies.len() < rows {
         return unreadable(out);
-    };
-    let Number::Of(leaving_length) = number_or(line, b"leaving_length", need) else {
+    }
+    if leaving.len() < notes {
         return unreadable(out);
-    };
-    tables_made(
+    }
+    run_lent(
         z,
         strand_glues,
         scaffold,
@@ -220,14 +145,14 @@ fn lengths_read(
         tiles,
         need,
         layout,
-        energies_length as usize,
-        leaving_length as usize,
+        &mut energies[..rows],
+        &mut leaving[..notes],
         out,
     )
 }
 
-// Lends as much of the layout as the case says.
-fn layout_lent(
+// Asks with as much of the layout as the case says.
+pub(crate) fn run(
     line: &[u8],
     z: Sizes,
     strand_glues: &[u32],
@@ -239,14 +164,16 @@ fn layout_lent(
     constrained: bool,
     offsets: &[usize],
     tiles: &[u32],
-    layout: &mut [u32],
     length: usize,
+    layout: &mut [u32],
+    energies: &mut [f64],
+    leaving: &mut [u8],
     out: &mut [u8],
 ) -> usize {
     if layout.len() < length {
         return unreadable(out);
     }
-    lengths_read(
+    ledger_lent(
         line,
         z,
         strand_glues,
@@ -259,43 +186,8 @@ fn layout_lent(
         offsets,
         tiles,
         &mut layout[..length],
-        out,
-    )
-}
-
-// Makes the layout, of sevens.
-pub(crate) fn layout_made(
-    line: &[u8],
-    z: Sizes,
-    strand_glues: &[u32],
-    scaffold: &[u32],
-    delta_g: &[f64],
-    entropy: &[f64],
-    logs: &[f64],
-    seeds: &[u32],
-    constrained: bool,
-    offsets: &[usize],
-    tiles: &[u32],
-    out: &mut [u8],
-) -> usize {
-    let Number::Of(length) = number_or(line, b"layout_length", bays(z)) else {
-        return unreadable(out);
-    };
-    let mut layout = [7u32; 1089];
-    layout_lent(
-        line,
-        z,
-        strand_glues,
-        scaffold,
-        delta_g,
-        entropy,
-        logs,
-        seeds,
-        constrained,
-        offsets,
-        tiles,
-        &mut layout,
-        length as usize,
+        energies,
+        leaving,
         out,
     )
 }

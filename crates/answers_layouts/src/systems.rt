@@ -1,57 +1,29 @@
 // A system and its constraints are read from their line, and a run is asked of them.
-use crate::run::layout_made;
-use answer_lines::unreadable;
+use crate::run::run;
+use crate::run::table_length;
 use case_text::first_floats;
 use case_text::first_numbers;
 use case_text::first_small_numbers;
-use system_text::ConstraintsRead;
-use system_text::SystemRead;
+use system_text::bays;
 use system_text::read_constraints;
 use system_text::read_system;
 
-// The fields of the system and of the constraints are read.
-fn all_read(
-    line: &[u8],
-    read: SystemRead,
-    lists: ConstraintsRead,
-    strand_glues: &[u32; 325],
-    scaffold: &[u32; 1089],
-    delta_g: &[f64],
-    entropy: &[f64],
-    logs: &[f64; 65],
-    seeds: &[u32; 36],
-    offsets: &[usize; 1025],
-    tiles: &[u32; 2977],
-    out: &mut [u8],
-) -> usize {
-    if !read.readable {
-        return unreadable(out);
+// How long the lent layout is to be; where the case could not be read, more than any table holds.
+fn layout_length(line: &[u8], system: bool, constraints: bool, right: usize) -> usize {
+    if system && constraints {
+        return table_length(line, b"layout_length", right);
     }
-    if !lists.readable {
-        return unreadable(out);
-    }
-    let z = read.sizes;
-    layout_made(
-        line,
-        z,
-        first_small_numbers(strand_glues, read.strand_glues),
-        first_small_numbers(scaffold, read.scaffold),
-        first_floats(delta_g, read.delta_g),
-        first_floats(entropy, read.entropy),
-        first_floats(logs, read.logs),
-        first_small_numbers(seeds, read.seeds),
-        lists.constrained,
-        first_numbers(offsets, lists.offsets),
-        first_small_numbers(tiles, lists.tiles),
-        out,
-    )
+    1048576
 }
 
-// The answer to a case: the layout of least energy of its system, with the ledger.
-pub(crate) fn answer_system(
+// Reads the system and the constraints, and asks with tables that are lent for the run.
+fn system_into(
     line: &[u8],
-    delta_g: &mut [f64],
-    entropy: &mut [f64],
+    delta_g: &mut [f64; 66049],
+    entropy: &mut [f64; 66049],
+    layout: &mut [u32],
+    energies: &mut [f64; 32768],
+    leaving: &mut [u8; 32768],
     out: &mut [u8],
 ) -> usize {
     let mut strand_glues = [0u32; 325];
@@ -67,21 +39,44 @@ pub(crate) fn answer_system(
         &mut logs,
         &mut seeds,
     );
+    let z = read.sizes;
     let mut offsets = [0usize; 1025];
     let mut tiles = [0u32; 2977];
     let lists = read_constraints(line, &mut offsets, &mut tiles);
-    all_read(
+    run(
         line,
-        read,
-        lists,
-        &strand_glues,
-        &scaffold,
-        delta_g,
-        entropy,
-        &logs,
-        &seeds,
-        &offsets,
-        &tiles,
+        z,
+        first_small_numbers(&strand_glues, read.strand_glues),
+        first_small_numbers(&scaffold, read.scaffold),
+        first_floats(delta_g, read.delta_g),
+        first_floats(entropy, read.entropy),
+        first_floats(&logs, read.logs),
+        first_small_numbers(&seeds, read.seeds),
+        lists.constrained,
+        first_numbers(&offsets, lists.offsets),
+        first_small_numbers(&tiles, lists.tiles),
+        layout_length(line, read.readable, lists.readable, bays(z)),
+        layout,
+        energies,
+        leaving,
+        out,
+    )
+}
+
+// The answer to a case: the layout of least energy of its system, with the ledger. The run is lent tables of sevens.
+pub(crate) fn answer_system(line: &[u8], out: &mut [u8]) -> usize {
+    let mut delta_g = [0.0; 66049];
+    let mut entropy = [0.0; 66049];
+    let mut layout = [7u32; 1089];
+    let mut energies = [7.0; 32768];
+    let mut leaving = [7u8; 32768];
+    system_into(
+        line,
+        &mut delta_g,
+        &mut entropy,
+        &mut layout,
+        &mut energies,
+        &mut leaving,
         out,
     )
 }

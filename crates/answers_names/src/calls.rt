@@ -2,14 +2,16 @@
 use crate::answers;
 use crate::fields::are_numbers;
 use crate::fields::at_most;
+use crate::fields::both;
 use crate::fields::both_read;
 use crate::fields::counted;
-use crate::fields::is_number;
+use crate::fields::if_read;
+use crate::fields::length_in;
 use crate::fields::number_in;
 use crate::fields::numerals_field;
 use crate::fields::product;
 use crate::fields::three_read;
-use crate::tables::all_numbers;
+use crate::tables::all_sevens;
 use crate::tables::all_small_numbers;
 use answer_lines::put_value;
 use answer_lines::unreadable;
@@ -73,9 +75,7 @@ fn register_into(
         &mut scaffold[..s],
         &mut bases[..b],
     );
-    let kept = all_small_numbers(glues, 7)
-        && all_small_numbers(scaffold, 7)
-        && all_numbers(bases, 0, 7);
+    let kept = all_sevens(glues, scaffold, bases);
     answers::registered(
         out,
         answer,
@@ -96,29 +96,6 @@ struct Lengths {
 // The bays of a grid; a side past the limit of 32 is taken for 33, which is refused whatever is lent.
 fn bays(rows: usize, cols: usize) -> usize {
     product(at_most(rows, 33), at_most(cols, 33))
-}
-
-// The texts and lists of a case are read; the numbers are still in its line.
-fn register_read(
-    line: &[u8],
-    text: &[u8; 16400],
-    text_count: usize,
-    offsets: &[usize; 1400],
-    offsets_count: usize,
-    present: &[u8; 1400],
-    present_count: usize,
-    out: &mut [u8],
-) -> usize {
-    if !three_read(text_count, offsets_count, present_count) {
-        return unreadable(out);
-    }
-    register_numbers(
-        line,
-        first_bytes(text, text_count),
-        first_numbers(offsets, offsets_count),
-        first_bytes(present, present_count),
-        out,
-    )
 }
 
 // The sizes of a grid and of a set of strands, as a case gives them.
@@ -149,47 +126,17 @@ fn read_sizes(line: &[u8]) -> SizesRead {
     }
 }
 
-// Whether all three could be read, and the lengths.
-struct LengthsRead {
-    readable: bool,
-    lengths: Lengths,
-}
-
-fn read_lengths(line: &[u8], sizes: Sizes) -> LengthsRead {
+// The lengths of a case whose other fields could be read.
+fn read_lengths(line: &[u8], sizes: Sizes, readable: bool) -> Lengths {
     let glues = product(at_most(sizes.strands, 66), 5);
     let g = number_or(line, b"glues_length", glues);
     let s = number_or(line, b"scaffold_length", bays(sizes.rows, sizes.cols));
     let b = number_or(line, b"bases_length", 254);
-    let lengths = Lengths {
-        glues: number_in(g),
-        scaffold: number_in(s),
-        bases: number_in(b),
-    };
-    LengthsRead {
-        readable: are_numbers(g, s, b),
-        lengths,
+    Lengths {
+        glues: if_read(readable, length_in(g)),
+        scaffold: length_in(s),
+        bases: length_in(b),
     }
-}
-
-// The numbers of a case are read.
-fn register_numbers(
-    line: &[u8],
-    text: &[u8],
-    offsets: &[usize],
-    present: &[u8],
-    out: &mut [u8],
-) -> usize {
-    let asked = read_sizes(line);
-    let sizes = asked.sizes;
-    let lent = read_lengths(line, sizes);
-    let lengths = lent.lengths;
-    if !asked.readable {
-        return unreadable(out);
-    }
-    if !lent.readable {
-        return unreadable(out);
-    }
-    register_lent(sizes, text, offsets, present, lengths, out)
 }
 
 // Tables of sevens are lent.
@@ -224,14 +171,18 @@ pub(crate) fn register(line: &[u8], out: &mut [u8]) -> usize {
     let offsets_count = counted(numbers_field(line, b"offsets", &mut offsets));
     let mut present = [0u8; 1400];
     let present_count = counted(bytes_field(line, b"present", &mut present));
-    register_read(
-        line,
-        &text,
-        text_count,
-        &offsets,
-        offsets_count,
-        &present,
-        present_count,
+    let asked = read_sizes(line);
+    let sizes = asked.sizes;
+    let readable = both(
+        asked.readable,
+        three_read(text_count, offsets_count, present_count),
+    );
+    register_lent(
+        sizes,
+        first_bytes(&text, text_count),
+        first_numbers(&offsets, offsets_count),
+        first_bytes(&present, present_count),
+        read_lengths(line, sizes, readable),
         out,
     )
 }
@@ -320,40 +271,9 @@ fn seeds_into(
     answers::seeds(out, answer, kept, first_small_numbers(seeds, length))
 }
 
-// The seeds of a case are read.
-fn seeds_read(
-    line: &[u8],
-    text: &[u8],
-    offsets: &[usize],
-    present: &[u8],
-    numerals: &[u8],
-    places: &[usize; 64],
-    places_count: usize,
-    seed_text: &[u8; 16400],
-    seed_text_count: usize,
-    seed_offsets: &[usize; 64],
-    seed_offsets_count: usize,
-    out: &mut [u8],
-) -> usize {
-    if !three_read(places_count, seed_text_count, seed_offsets_count) {
-        return unreadable(out);
-    }
-    seeds_numbers(
-        line,
-        text,
-        offsets,
-        present,
-        numerals,
-        first_numbers(places, places_count),
-        first_bytes(seed_text, seed_text_count),
-        first_numbers(seed_offsets, seed_offsets_count),
-        out,
-    )
-}
-
-// The numbers of a case are read, and a table of sevens is lent.
-fn seeds_numbers(
-    line: &[u8],
+// A table of sevens is lent.
+fn seeds_lent(
+    sizes: Sizes,
     text: &[u8],
     offsets: &[usize],
     present: &[u8],
@@ -361,17 +281,9 @@ fn seeds_numbers(
     places: &[usize],
     seed_text: &[u8],
     seed_offsets: &[usize],
+    length: usize,
     out: &mut [u8],
 ) -> usize {
-    let asked = read_sizes(line);
-    let sizes = asked.sizes;
-    let length = number_or(line, b"seeds_length", product(places.len() / 2, 3));
-    if !asked.readable {
-        return unreadable(out);
-    }
-    if !is_number(length) {
-        return unreadable(out);
-    }
     let mut seeds = [7u32; 128];
     seeds_into(
         sizes,
@@ -382,13 +294,13 @@ fn seeds_numbers(
         places,
         seed_text,
         seed_offsets,
-        number_in(length),
+        length,
         &mut seeds,
         out,
     )
 }
 
-// The lists of the seeds are read.
+// The lists of the seeds and the numbers of a case are read.
 fn seeds_given(
     line: &[u8],
     text: &[u8],
@@ -403,18 +315,23 @@ fn seeds_given(
     let seed_text_count = counted(text_field(line, b"seed_text", &mut seed_text));
     let mut seed_offsets = [0usize; 64];
     let seed_offsets_count = counted(numbers_field(line, b"seed_offsets", &mut seed_offsets));
-    seeds_read(
-        line,
+    let asked = read_sizes(line);
+    let sizes = asked.sizes;
+    let readable = both(
+        asked.readable,
+        three_read(places_count, seed_text_count, seed_offsets_count),
+    );
+    let length = number_or(line, b"seeds_length", product(places_count / 2, 3));
+    seeds_lent(
+        sizes,
         text,
         offsets,
         present,
         numerals,
-        &places,
-        places_count,
-        &seed_text,
-        seed_text_count,
-        &seed_offsets,
-        seed_offsets_count,
+        first_numbers(&places, places_count),
+        first_bytes(&seed_text, seed_text_count),
+        first_numbers(&seed_offsets, seed_offsets_count),
+        if_read(readable, length_in(length)),
         out,
     )
 }

@@ -24,7 +24,7 @@ pub(crate) fn at_most(n: usize, limit: usize) -> usize
     if n < limit { n } else { limit }
 }
 
-// A product of two numbers, each taken for 257 where it is larger: no side that a case lends is longer.
+// A product of two numbers, each taken for 257 where it is larger, which is past every limit.
 pub(crate) fn product(a: usize, b: usize) -> usize {
     let rows = at_most(a, 257);
     let cols = at_most(b, 257);
@@ -50,7 +50,7 @@ pub(crate) fn three_read(a: usize, b: usize, c: usize) -> bool {
 }
 
 // Whether a number could be read.
-pub(crate) fn is_number(value: Number) -> bool {
+fn is_number(value: Number) -> bool {
     match value {
         Number::Of(_) => true,
         Number::Unreadable => false,
@@ -68,4 +68,22 @@ pub(crate) fn number_in(value: Number) -> usize {
         Number::Of(n) => n as usize,
         Number::Unreadable => 0,
     }
+}
+
+// The length of a lent table; where it could not be read, more than any table of this program holds.
+pub(crate) fn length_in(value: Number) -> usize {
+    match value {
+        Number::Of(n) => n as usize,
+        Number::Unreadable => 1048576,
+    }
+}
+
+// The length of a lent table where the rest of the case was read, else more than any table holds.
+pub(crate) fn if_read(readable: bool, length: usize) -> usize {
+    if readable { length } else { 1048576 }
+}
+
+// Whether two parts of a case were read.
+pub(crate) fn both(a: bool, b: bool) -> bool {
+    a && b
 }

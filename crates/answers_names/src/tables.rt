@@ -21,22 +21,7 @@ pub(crate) fn all_numbers(table: &[usize], from: usize, value: usize) -> bool {
     true
 }
 
-pub(crate) fn all_floats(table: &[f64], value: f64) -> bool {
-    let mut i = 0;
-    while i < table.len() {
-        if table[i] != value {
-            return false;
-        }
-        i += 1;
-    }
-    true
-}
-
-// Puts `value` into each place.
-pub(crate) fn fill_floats(table: &mut [f64], value: f64) {
-    let mut i = 0;
-    while i < table.len() {
-        table[i] = value;
-        i += 1;
-    }
+// Whether each place of the three tables that `register` is lent still holds 7.
+pub(crate) fn all_sevens(glues: &[u32], scaffold: &[u32], bases: &[usize]) -> bool {
+    all_small_numbers(glues, 7) && all_small_numbers(scaffold, 7) && all_numbers(bases, 0, 7)
 }

@@ -9,7 +9,6 @@ use case_text::first_long_numbers;
 use case_text::first_numbers;
 use case_text::first_small_numbers;
 use sdc2d::Sizes;
-use system_text::ConstraintsRead;
 use system_text::bays;
 use system_text::read_constraints;
 use units::Check;
@@ -58,77 +57,18 @@ fn sets_into(
     put_sets(out, answer, kept, first_long_numbers(sets, length))
 }
 
-// The constraints of a case are read, and a table of sevens is lent.
-fn constraints_read(
-    line: &[u8],
-    z: Sizes,
-    strand_glues: &[u32],
-    scaffold: &[u32],
-    delta_g: &[f64],
-    entropy: &[f64],
-    logs: &[f64],
-    seeds: &[u32],
-    read: ConstraintsRead,
-    offsets: &[usize; 1025],
-    tiles: &[u32; 2977],
-    out: &mut [u8],
-) -> usize {
-    if !read.readable {
-        return unreadable(out);
+// How long the lent table is to be, by a case whose constraints could be read; else more than any table of this program holds.
+fn sets_length(line: &[u8], readable: bool, right: usize) -> usize {
+    if !readable {
+        return 1048576;
     }
-    let Number::Of(length) = number_or(line, b"sets_length", bays(z)) else {
-        return unreadable(out);
-    };
-    sets_lent(
-        z,
-        strand_glues,
-        scaffold,
-        delta_g,
-        entropy,
-        logs,
-        seeds,
-        read.constrained,
-        first_numbers(offsets, read.offsets),
-        first_small_numbers(tiles, read.tiles),
-        length as usize,
-        out,
-    )
+    match number_or(line, b"sets_length", right) {
+        Number::Of(n) => n as usize,
+        Number::Unreadable => 1048576,
+    }
 }
 
-// A table of sevens is lent.
-fn sets_lent(
-    z: Sizes,
-    strand_glues: &[u32],
-    scaffold: &[u32],
-    delta_g: &[f64],
-    entropy: &[f64],
-    logs: &[f64],
-    seeds: &[u32],
-    constrained: bool,
-    offsets: &[usize],
-    tiles: &[u32],
-    length: usize,
-    out: &mut [u8],
-) -> usize {
-    let mut sets = [7u64; 1089];
-    sets_into(
-        z,
-        strand_glues,
-        scaffold,
-        delta_g,
-        entropy,
-        logs,
-        seeds,
-        constrained,
-        offsets,
-        tiles,
-        length,
-        &mut sets,
-        out,
-    )
-}
-
-// The answer to `allowed_tiles` on a system.
+// The answer to `allowed_tiles` on a system; a table of sevens is lent.
 pub(crate) fn answer_sets(
     line: &[u8],
     z: Sizes,
@@ -143,8 +83,8 @@ pub(crate) fn answer_sets(
     let mut offsets = [0usize; 1025];
     let mut tiles = [0u32; 2977];
     let read = read_constraints(line, &mut offsets, &mut tiles);
-    constraints_read(
-        line,
+    let mut sets = [7u64; 1089];
+    sets_into(
         z,
         strand_glues,
         scaffold,
@@ -152,9 +92,11 @@ pub(crate) fn answer_sets(
         entropy,
         logs,
         seeds,
-        read,
-        &offsets,
-        &tiles,
+        read.constrained,
+        first_numbers(&offsets, read.offsets),
+        first_small_numbers(&tiles, read.tiles),
+        sets_length(line, read.readable, bays(z)),
+        &mut sets,
         out,
     )
 }

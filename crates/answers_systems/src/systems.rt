@@ -5,12 +5,12 @@ use answer_lines::unreadable;
 use case_text::first_floats;
 use case_text::first_small_numbers;
 use sdc2d::Sizes;
-use system_text::SystemRead;
 use system_text::read_system;
 
-// The whole system is read; the bonds, or the sets, are asked.
+// The bonds, or the sets, are asked, if the whole system could be read.
 fn ask(
     line: &[u8],
+    readable: bool,
     bonds: bool,
     z: Sizes,
     strand_glues: &[u32],
@@ -21,6 +21,9 @@ fn ask(
     seeds: &[u32],
     out: &mut [u8],
 ) -> usize {
+    if !readable {
+        return unreadable(out);
+    }
     if bonds {
         return answer_bonds(
             z,
@@ -46,43 +49,12 @@ fn ask(
     )
 }
 
-// The fields of the system are read.
-fn system_read(
+// Reads the fields of a case; the matrices are room for the system's.
+fn system_into(
     line: &[u8],
     bonds: bool,
-    read: SystemRead,
-    strand_glues: &[u32; 325],
-    scaffold: &[u32; 1089],
-    delta_g: &[f64],
-    entropy: &[f64],
-    logs: &[f64; 65],
-    seeds: &[u32; 36],
-    out: &mut [u8],
-) -> usize {
-    if !read.readable {
-        return unreadable(out);
-    }
-    let z = read.sizes;
-    ask(
-        line,
-        bonds,
-        z,
-        first_small_numbers(strand_glues, read.strand_glues),
-        first_small_numbers(scaffold, read.scaffold),
-        first_floats(delta_g, read.delta_g),
-        first_floats(entropy, read.entropy),
-        first_floats(logs, read.logs),
-        first_small_numbers(seeds, read.seeds),
-        out,
-    )
-}
-
-// The answer to a case: the bonds of its system, or the sets of legal strands.
-pub(crate) fn answer_system(
-    line: &[u8],
-    bonds: bool,
-    delta_g: &mut [f64],
-    entropy: &mut [f64],
+    delta_g: &mut [f64; 66049],
+    entropy: &mut [f64; 66049],
     out: &mut [u8],
 ) -> usize {
     let mut strand_glues = [0u32; 325];
@@ -98,16 +70,25 @@ pub(crate) fn answer_system(
         &mut logs,
         &mut seeds,
     );
-    system_read(
+    let z = read.sizes;
+    ask(
         line,
+        read.readable,
         bonds,
-        read,
-        &strand_glues,
-        &scaffold,
-        delta_g,
-        entropy,
-        &logs,
-        &seeds,
+        z,
+        first_small_numbers(&strand_glues, read.strand_glues),
+        first_small_numbers(&scaffold, read.scaffold),
+        first_floats(delta_g, read.delta_g),
+        first_floats(entropy, read.entropy),
+        first_floats(&logs, read.logs),
+        first_small_numbers(&seeds, read.seeds),
         out,
     )
+}
+
+// The answer to a case: the bonds of its system, or the sets of legal strands.
+pub(crate) fn answer_system(line: &[u8], bonds: bool, out: &mut [u8]) -> usize {
+    let mut delta_g = [0.0; 66049];
+    let mut entropy = [0.0; 66049];
+    system_into(line, bonds, &mut delta_g, &mut entropy, out)
 }

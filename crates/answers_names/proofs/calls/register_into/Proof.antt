@@ -54,14 +54,8 @@ slice-aggregate-register-3 c = sym (length-take-le _ _ (omega arith))
 register-requires : tie.Need-register-requires
 register-requires c κs = search needs
 
-all-small-numbers-requires : tie.Need-all-small-numbers-requires
-all-small-numbers-requires c κs = search needs
-
-all-small-numbers-requires-2 : tie.Need-all-small-numbers-requires-2
-all-small-numbers-requires-2 c κs = search needs
-
-all-numbers-requires : tie.Need-all-numbers-requires
-all-numbers-requires c κs = search needs
+all-sevens-requires : tie.Need-all-sevens-requires
+all-sevens-requires c κs = search needs
 
 first-small-numbers-requires : tie.Need-first-small-numbers-requires
 first-small-numbers-requires c κs = search needs
@@ -110,9 +104,7 @@ register-into-spec =
     slice-relend-prefix-register-3
     slice-aggregate-register-3
     register-requires
-    all-small-numbers-requires
-    all-small-numbers-requires-2
-    all-numbers-requires
+    all-sevens-requires
     first-small-numbers-requires
     first-small-numbers-requires-2
     first-numbers-requires

@@ -1,10 +1,10 @@
--- `answers_names::tables::all_floats` reads no further than the table. Assumes nothing.
+-- `answers_keys::matrices::all_floats` reads no further than the table. Assumes nothing.
 use Prim.Native.Nat.{_-_}
 use native.Mathlib.Omega.{arith}
 use lib.ListN.{length}
 use borrow.Author.Needs.{needs}
-use Rattle.answers_names.proofs.tables.all_floats.Statement.{statement}
-use Rattle.answers_names.proofs.tables.all_floats.Tie as tie
+use Rattle.answers_keys.proofs.matrices.all_floats.Statement.{statement}
+use Rattle.answers_keys.proofs.matrices.all_floats.Tie as tie
 
 abbrev Inv-loop : tie.InvT-loop
 Inv-loop table value i₀ i = Unit {0}

@@ -1,11 +1,11 @@
--- `answers_names::keys::put_matrices` goes through the cells once. Assumes nothing.
+-- `answers_keys::matrices::put_matrices` goes through the cells once. Assumes nothing.
 use Prim.Native.Nat.{_-_}
 use mathlib.Core.Path.{_≡_}
 use native.Mathlib.Omega.{arith}
 use lib.ListN.{length}
 use borrow.Author.Needs.{needs}
-use Rattle.answers_names.proofs.keys.put_matrices.Statement.{statement}
-use Rattle.answers_names.proofs.keys.put_matrices.Tie as tie
+use Rattle.answers_keys.proofs.matrices.put_matrices.Statement.{statement}
+use Rattle.answers_keys.proofs.matrices.put_matrices.Tie as tie
 
 abbrev Inv-loop : tie.InvT-loop
 Inv-loop out₀ side delta-g entropy next₀ i₀ j₀ k₀ out next i j k = length out ≡ length out₀

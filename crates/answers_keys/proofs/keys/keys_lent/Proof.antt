@@ -1,13 +1,13 @@
--- `answers_names::keys::keys_lent` lends parts that the matrices have. Assumes nothing.
+-- `answers_keys::keys::keys_lent` lends parts that the matrices have. Assumes nothing.
 use mathlib.Core.Path.{sym}
 use native.Mathlib.Omega.{arith}
 use lib.Seq.{length-take-le}
 use borrow.Author.Needs.{needs}
-use Rattle.answers_names.proofs.keys.keys_lent.Statement.{statement}
-use Rattle.answers_names.proofs.keys.keys_lent.Tie as tie
+use Rattle.answers_keys.proofs.keys.keys_lent.Statement.{statement}
+use Rattle.answers_keys.proofs.keys.keys_lent.Tie as tie
 
-product-requires : tie.Need-product-requires
-product-requires c κs = search needs
+cells-requires : tie.Need-cells-requires
+cells-requires c κs = search needs
 
 unreadable-requires : tie.Need-unreadable-requires
 unreadable-requires c κs = search needs
@@ -58,7 +58,7 @@ pub keys-lent-spec : {M : Type 1} → statement M
 keys-lent-spec =
     tie.close
     (tie.spec
-    product-requires
+    cells-requires
     unreadable-requires
     same-length
     returns
