@@ -1,0 +1,3 @@
+pub mod Cuts
+pub mod Numbers
+pub mod Turns

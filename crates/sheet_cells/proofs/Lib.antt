@@ -1,0 +1,4 @@
+pub mod Counts
+pub mod Quotes
+pub mod Records
+pub mod Sheets
