@@ -65,7 +65,16 @@ unfolding sheetText
 sheet-end c columns bay zero h = refl
 sheet-end c columns bay (suc left) h = absurd (omega arith)
 
--- the bays of the rows that are left
-pub rows-next : (columns left : ℕ) → 0 < left → left * columns ≡ columns + (left - 1) * columns
+-- ---- the bays of the rows that are left
+
+rows-next : (columns left : ℕ) → 0 < left → left * columns ≡ columns + (left - 1) * columns
 rows-next columns zero h = absurd (omega arith)
 rows-next columns (suc left) h = rw (sub-one (suc left), suc-mul left columns) (omega arith)
+
+module _ (rows columns bay left : ℕ) (e : bay + left * columns ≡ rows * columns) (h : 0 < left) where
+  -- the bays of the next row are among the grid's
+  pub row-within : bay + columns ≤ rows * columns
+  row-within = let n = rows-next columns left h in omega arith
+
+  pub rows-left : bay + columns + (left - 1) * columns ≡ rows * columns
+  rows-left = let n = rows-next columns left h in omega arith

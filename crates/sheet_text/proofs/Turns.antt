@@ -12,7 +12,7 @@ use Rattle.answer_texts.specs.Puts.{Put}
 use Rattle.answer_texts.proofs.Putting.{Ending, ending-starts, ending-goes-on, ending-ends}
 use Rattle.sheet_text.specs.Written.{spaced, separator, rowText, sheetText}
 use Rattle.sheet_text.specs.Asked.{HasLists}
-use Rattle.sheet_text.proofs.Parts.{record-next, record-end, sheet-next, sheet-end, rows-next}
+use Rattle.sheet_text.proofs.Parts.{record-next, record-end, sheet-next, sheet-end, rows-left}
 
 -- ---- what the shape of the offsets gives
 
@@ -68,15 +68,11 @@ module _ (c : Constraints) (rows columns : ℕ) (old : List ℕ) where
   sheet-starts = record { ending = ending-starts (sheetText c columns 0 rows) (omega arith); bays = omega arith }
 
   module _ (out : List ℕ) (next bay left : ℕ) (s : Sheet c rows columns old out next bay left) where
-    -- the bays of the next row are among the grid's
-    pub row-within : 0 < left → bay + columns ≤ rows * columns
-    row-within h = let b = s .bays in let n = rows-next columns left h in omega arith
-
     pub sheet-goes-on : 0 < left → {r : ℕ} {out' : List ℕ} → Put out next (rowText c bay columns) r out' → Sheet c rows columns old out' r (bay + columns) (left - 1)
     sheet-goes-on h p =
         record {
           ending = ending-goes-on (s .ending) (rowText c bay columns) (sheetText c columns (bay + columns) (left - 1)) (sheet-next c columns bay left h) p;
-          bays = let b = s .bays in let n = rows-next columns left h in omega arith;
+          bays = rows-left rows columns bay left (s .bays) h;
         }
 
     pub sheet-ends : left ≤ 0 → Put old 0 (sheetText c columns 0 rows) next out

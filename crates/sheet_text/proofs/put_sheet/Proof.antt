@@ -3,7 +3,8 @@ use Prim.Native.Nat.{_+_, _*_}
 use mathlib.Core.Bool.{true}
 use native.Mathlib.Omega.{arith}
 use Rattle.bay_lists.specs.Lists.{constraints}
-use Rattle.sheet_text.proofs.Turns.{has-lists, fewer-lists, Sheet, sheet-starts, row-within, sheet-goes-on, sheet-ends}
+use Rattle.sheet_text.proofs.Parts.{row-within}
+use Rattle.sheet_text.proofs.Turns.{has-lists, fewer-lists, Sheet, sheet-starts, sheet-goes-on, sheet-ends}
 use borrow.Author.Needs.{needs}
 use Rattle.sheet_text.proofs.put_sheet.Statement.{statement}
 use Rattle.sheet_text.proofs.put_sheet.Tie as tie
@@ -25,7 +26,7 @@ put-record-requires c κs =
     let l = turn .before in
     let start = l .before .before .before .before in
     let a = start .args in
-    let within = row-within (constraints true (a .offsets .now) (a .tiles .now)) (a .rows) (a .columns) (a .text .now) (l .loop .text) (l .loop .next) (l .loop .bay) (l .loop .left) (l .loop .inv) (turn .loop-test .taken) in
+    let within = row-within (a .rows) (a .columns) (l .loop .bay) (l .loop .left) (l .loop .inv .bays) (turn .loop-test .taken) in
     let all = has-lists (a .offsets .now) (a .tiles .now) (a .rows * a .columns) (start .pre) in
     (fewer-lists (a .offsets .now) (a .tiles .now) (a .rows * a .columns) (l .loop .bay + a .columns) all within, l .loop .inv .ending .within)
 
@@ -35,7 +36,7 @@ add-bay c =
     let l = turn .before in
     let start = l .before .before .before .before in
     let a = start .args in
-    let within = row-within (constraints true (a .offsets .now) (a .tiles .now)) (a .rows) (a .columns) (a .text .now) (l .loop .text) (l .loop .next) (l .loop .bay) (l .loop .left) (l .loop .inv) (turn .loop-test .taken) in
+    let within = row-within (a .rows) (a .columns) (l .loop .bay) (l .loop .left) (l .loop .inv .bays) (turn .loop-test .taken) in
     let all = has-lists (a .offsets .now) (a .tiles .now) (a .rows * a .columns) (start .pre) in
     omega (arith, all .enough, start .good .1 .1 .0 .0)
 
