@@ -1,0 +1,79 @@
+-- Laws of a walk over the bays of a record and over the records of a sheet: how putting them goes on. Assumes nothing.
+use Prim.Native.Nat.{ℕ, _+_, _-_, _*_, _≤_, _<_}
+use mathlib.Core.Bool.{true}
+use mathlib.Core.List.{List, _++_}
+use mathlib.Core.Path.{_≡_, refl}
+use native.Mathlib.Omega.{arith}
+use lib.ListN.{length, getD}
+use Rattle.entries.proofs.Bounds.{entry-starts, offset-within}
+use Rattle.bay_lists.specs.Lists.{Constraints, constraints, listOf, offsetsShaped}
+use Rattle.bay_lists.proofs.Restricting.{list-shape}
+use Rattle.answer_texts.specs.Puts.{Put}
+use Rattle.answer_texts.proofs.Putting.{Ending, ending-starts, ending-goes-on, ending-ends}
+use Rattle.sheet_text.specs.Written.{spaced, separator, rowText, sheetText}
+use Rattle.sheet_text.specs.Asked.{HasLists}
+use Rattle.sheet_text.proofs.Parts.{record-next, record-end, sheet-next, sheet-end, rows-left}
+
+-- ---- what the shape of the offsets gives
+
+module _ (offsets tiles : List ℕ) where
+  pub has-lists : (bays : ℕ) → offsetsShaped bays (constraints true offsets tiles) ≡ true → HasLists offsets tiles bays
+  has-lists bays e =
+      let shape = list-shape bays true offsets tiles refl e in
+      let count = shape .count in
+      record { fit = shape .fit; enough = omega arith }
+
+  pub fewer-lists : (more bays : ℕ) → HasLists offsets tiles more → bays ≤ more → HasLists offsets tiles bays
+  fewer-lists more bays h k = record { fit = h .fit; enough = let e = h .enough in omega arith }
+
+  module _ (bay : ℕ) (h : HasLists offsets tiles (bay + 1)) where
+    pub list-starts : getD offsets bay 0 ≤ getD offsets (bay + 1) 0
+    list-starts = entry-starts (length tiles) offsets bay (h .fit) (h .enough)
+
+    pub list-ends : getD offsets (bay + 1) 0 ≤ length tiles
+    list-ends = offset-within (length tiles) offsets (bay + 1) (h .fit) (h .enough)
+
+-- ---- a record's turns
+
+-- what is left of a record will end it, and so many of its bays are left
+pub record Row (c : Constraints) (first columns : ℕ) (old : List ℕ) (at : ℕ) (out : List ℕ) (next bay left : ℕ) : Type 0 where
+  pub ending : Ending old at (rowText c first columns) (rowText c bay left) out next
+  pub bays : bay + left ≡ first + columns
+
+module _ (c : Constraints) (first columns : ℕ) (old : List ℕ) (at : ℕ) where
+  pub row-starts : at ≤ length old → Row c first columns old at old at first columns
+  row-starts h = record { ending = ending-starts (rowText c first columns) h; bays = refl }
+
+  module _ (out : List ℕ) (next bay left : ℕ) (s : Row c first columns old at out next bay left) where
+    pub row-goes-on : 0 < left → {r : ℕ} {out' : List ℕ} → Put out next (spaced 0 (listOf c bay) ++ separator (left - 1)) r out'
+        → Row c first columns old at out' r (bay + 1) (left - 1)
+    row-goes-on h p =
+        record {
+          ending = ending-goes-on (s .ending) (spaced 0 (listOf c bay) ++ separator (left - 1)) (rowText c (bay + 1) (left - 1)) (record-next c bay left h) p;
+          bays = let b = s .bays in omega arith;
+        }
+
+    pub row-ends : left ≤ 0 → Put old at (rowText c first columns) next out
+    row-ends h = ending-ends (s .ending) (record-end c bay left h)
+
+-- ---- the sheet's turns
+
+-- what is left of the sheet will end it, and so many of its rows are left
+pub record Sheet (c : Constraints) (rows columns : ℕ) (old : List ℕ) (out : List ℕ) (next bay left : ℕ) : Type 0 where
+  pub ending : Ending old 0 (sheetText c columns 0 rows) (sheetText c columns bay left) out next
+  pub bays : bay + left * columns ≡ rows * columns
+
+module _ (c : Constraints) (rows columns : ℕ) (old : List ℕ) where
+  pub sheet-starts : Sheet c rows columns old old 0 0 rows
+  sheet-starts = record { ending = ending-starts (sheetText c columns 0 rows) (omega arith); bays = omega arith }
+
+  module _ (out : List ℕ) (next bay left : ℕ) (s : Sheet c rows columns old out next bay left) where
+    pub sheet-goes-on : 0 < left → {r : ℕ} {out' : List ℕ} → Put out next (rowText c bay columns) r out' → Sheet c rows columns old out' r (bay + columns) (left - 1)
+    sheet-goes-on h p =
+        record {
+          ending = ending-goes-on (s .ending) (rowText c bay columns) (sheetText c columns (bay + columns) (left - 1)) (sheet-next c columns bay left h) p;
+          bays = rows-left rows columns bay left (s .bays) h;
+        }
+
+    pub sheet-ends : left ≤ 0 → Put old 0 (sheetText c columns 0 rows) next out
+    sheet-ends h = ending-ends (s .ending) (sheet-end c columns bay left h)
