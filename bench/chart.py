@@ -6,7 +6,7 @@ import sys
 from measured import PROGRAMS, SERIES, measured
 
 LOOKS = {"rattle": ("Rattle", "#0b6e4f"), "plain": ("plain Rust", "#1f4e9e"), "rgrow": ("rgrow's Rust", "#b3391f")}
-WIDE, HIGH, LEFT, TOP, GAP = 300, 330, 78, 74, 34
+WIDE, HIGH, LEFT, TOP, GAP = 300, 330, 92, 74, 34
 TIMES = {1e3: "1 µs", 1e4: "10 µs", 1e5: "100 µs", 1e6: "1 ms", 1e7: "10 ms", 1e8: "100 ms", 1e9: "1 s", 1e10: "10 s"}
 
 
@@ -92,7 +92,7 @@ def main():
         f'<svg xmlns="http://www.w3.org/2000/svg" viewBox="0 0 {wide} {high}" width="{wide}" height="{high}" font-family="sans-serif">',
         "<title>Time of a least-energy run against bays, legal strands and rows of the ledger</title>",
         f'<rect width="{wide}" height="{high}" fill="#fff"/>',
-        text(20, TOP + HIGH / 2, "time of one run", 14, extra=f' transform="rotate(-90 20 {TOP + HIGH / 2})"'),
+        text(20, TOP + HIGH / 2, "processor time of one run", 14, extra=f' transform="rotate(-90 20 {TOP + HIGH / 2})"'),
         *legend(LEFT),
     ]
     for at, (name, some) in enumerate(series.items()):

@@ -150,60 +150,114 @@ fn adds_are_good(below: &[f64], beside: &[f64], count: usize) -> bool {
     small(below) && small(beside) || below.chunks(count).all(|x| beside.chunks(count).all(|y| sums(x, y)))
 }
 
+/// A system with what a run works out once: the sets in scan order, and the bonds along and across major lines.
+struct Grid<'a> {
+    s: &'a System,
+    window: usize,
+    sets: Vec<Legal>,
+    /// The set that leaves, or stands before, where there is no bay: strand 0, which has no bonds.
+    none: Legal,
+    major: Vec<f64>,
+    minor: Vec<f64>,
+}
+
+impl Grid<'_> {
+    fn of(s: &System) -> Grid<'_> {
+        let (down, across) = (bonds(s, SOUTH, NORTH), bonds(s, EAST, WEST));
+        let (major, minor) = if s.cols <= s.rows { (down, across) } else { (across, down) };
+        let none = Legal::of([0].into_iter());
+        let mut grid = Grid { s, window: s.rows.min(s.cols), sets: Vec::new(), none, major, minor };
+        grid.sets = (0..s.rows * s.cols).map(|k| legal(s, grid.bay(k))).collect();
+        grid
+    }
+
+    /// The row-by-row number of the k-th bay of the scan.
+    fn bay(&self, k: usize) -> usize {
+        if self.s.cols <= self.s.rows {
+            k
+        } else {
+            k % self.window * self.s.cols + k / self.window
+        }
+    }
+
+    fn leaving(&self, k: usize) -> &Legal {
+        if k < self.window {
+            &self.none
+        } else {
+            &self.sets[k - self.window]
+        }
+    }
+
+    fn previous(&self, k: usize) -> &Legal {
+        if k % self.window == 0 {
+            &self.none
+        } else {
+            &self.sets[k - 1]
+        }
+    }
+
+    /// What bay k's strands add, in the two tables of its `Step`. A bond of strand 0 is 0.0, and adding that to a sum is
+    /// adding nothing, since no sum is minus zero.
+    fn adds(&self, k: usize, below: &mut Vec<f64>, beside: &mut Vec<f64>) {
+        let (s, set) = (self.s, self.sets[k].all());
+        let scaffold = s.scaffold[self.bay(k)] as usize;
+        let site = |t: usize| if t == 0 { 0.0 } else { bond(s, scaffold, glue(s, t, BOTTOM)) - s.logs[t] };
+        let mut sites = [0.0; 64];
+        sites.iter_mut().zip(set).for_each(|(cell, &t)| *cell = site(t as usize));
+        below.clear();
+        for &left in self.leaving(k).all() {
+            let bonds = &self.major[left as usize * s.strands..][..s.strands];
+            below.extend(sites.iter().zip(set).map(|(site, &t)| site + bonds[t as usize]));
+        }
+        beside.clear();
+        for &neighbour in self.previous(k).all() {
+            let bonds = &self.minor[neighbour as usize * s.strands..][..s.strands];
+            beside.extend(set.iter().map(|&t| bonds[t as usize]));
+        }
+    }
+
+    /// Writes all blocks, one behind the other, and answers where the last one begins and ends; nothing where a sum is NaN
+    /// or minus infinity.
+    fn fill(&self, energies: &mut [f64], notes: &mut [u8]) -> Option<(usize, usize)> {
+        let (mut below, mut beside) = (Vec::new(), Vec::new());
+        let (mut from, mut end) = (0, 0);
+        for (k, set) in self.sets.iter().enumerate() {
+            self.adds(k, &mut below, &mut beside);
+            if !adds_are_good(&below, &beside, set.count) {
+                return None;
+            }
+            let (done, rest) = energies.split_at_mut(end);
+            let before: &[f64] = if k == 0 { &[0.0] } else { &done[from..] };
+            let (leaving, previous) = (self.leaving(k).all(), self.previous(k).count);
+            let (width, count) = (before.len() / leaving.len(), set.count);
+            let rows = width * count;
+            let step = Step { before, width, leaving, count, previous, below: &below, beside: &beside };
+            if !step.fill(&mut rest[..rows], &mut notes[end..end + rows]) {
+                return None;
+            }
+            (from, end) = (end, end + rows);
+        }
+        Some((from, end))
+    }
+
+    /// Follows the notes from a row of the last block, which has `rows` rows and stands before `end`, to the first bay.
+    fn trace(&self, mut row: usize, mut rows: usize, mut end: usize, notes: &[u8], layout: &mut [u32]) {
+        for (k, set) in self.sets.iter().enumerate().rev() {
+            layout[self.bay(k)] = u32::from(set.strands[row % set.count]);
+            let (leaving, width) = (self.leaving(k), rows / set.count);
+            let note = notes[end - rows + row];
+            let position = leaving.all().iter().position(|&strand| strand == note).expect("a strand that left");
+            end -= rows;
+            row = position * width + row / set.count;
+            rows = width * leaving.count;
+        }
+    }
+}
+
 /// The least energy in kcal/mol, the layout and the ledger; nothing where a sum is NaN or minus infinity.
 fn run(s: &System, lent: &mut Lent) -> Option<f64> {
-    let (bays, window, by_rows) = (s.rows * s.cols, s.rows.min(s.cols), s.cols <= s.rows);
-    let bay_at = |k: usize| if by_rows { k } else { k % window * s.cols + k / window };
-    let (down, across) = (bonds(s, SOUTH, NORTH), bonds(s, EAST, WEST));
-    let (major, minor) = if by_rows { (&down, &across) } else { (&across, &down) };
-    let sets: Vec<Legal> = (0..bays).map(|k| legal(s, bay_at(k))).collect();
-    let none = Legal::of([0].into_iter());
-    let (mut below, mut beside) = (Vec::new(), Vec::new());
-    let (mut from, mut end) = (0, 0);
-    for (k, set) in sets.iter().enumerate() {
-        let leaving = if k < window { &none } else { &sets[k - window] };
-        let previous = if k % window == 0 { &none } else { &sets[k - 1] };
-        below.clear();
-        below.resize(leaving.count * set.count, 0.0);
-        beside.clear();
-        beside.resize(previous.count * set.count, 0.0);
-        for (p, &t) in set.all().iter().enumerate() {
-            let t = t as usize;
-            let site = match t {
-                0 => 0.0,
-                _ => bond(s, s.scaffold[bay_at(k)] as usize, glue(s, t, BOTTOM)) - s.logs[t],
-            };
-            for (a, &left) in leaving.all().iter().enumerate() {
-                let bonded = if k < window { site } else { site + major[left as usize * s.strands + t] };
-                below[a * set.count + p] = bonded;
-            }
-            if k % window != 0 {
-                for (u, &neighbour) in previous.all().iter().enumerate() {
-                    beside[u * set.count + p] = minor[neighbour as usize * s.strands + t];
-                }
-            }
-        }
-        if !adds_are_good(&below, &beside, set.count) {
-            return None;
-        }
-        let (done, rest) = lent.energies.split_at_mut(end);
-        let before: &[f64] = if k == 0 { &[0.0] } else { &done[from..] };
-        let width = before.len() / leaving.count;
-        let rows = width * set.count;
-        let step = Step {
-            before,
-            width,
-            leaving: leaving.all(),
-            count: set.count,
-            below: &below,
-            beside: &beside,
-            previous: previous.count,
-        };
-        if !step.fill(&mut rest[..rows], &mut lent.leaving[end..end + rows]) {
-            return None;
-        }
-        (from, end) = (end, end + rows);
-    }
+    let grid = Grid::of(s);
+    let (from, end) = grid.fill(&mut lent.energies, &mut lent.leaving)?;
     let last = &lent.energies[from..end];
     let (mut row, mut least) = (0, last[0]);
     for (i, &energy) in last.iter().enumerate() {
@@ -211,18 +265,7 @@ fn run(s: &System, lent: &mut Lent) -> Option<f64> {
             (row, least) = (i, energy);
         }
     }
-    // Back through the notes, from the last bay to the first.
-    let (mut rows, mut end) = (last.len(), end);
-    for (k, set) in sets.iter().enumerate().rev() {
-        lent.layout[bay_at(k)] = u32::from(set.strands[row % set.count]);
-        let leaving = if k < window { &none } else { &sets[k - window] };
-        let width = rows / set.count;
-        let note = lent.leaving[end - rows + row];
-        let position = leaving.all().iter().position(|&strand| strand == note).unwrap();
-        end -= rows;
-        row = position * width + row / set.count;
-        rows = width * leaving.count;
-    }
+    grid.trace(row, last.len(), end, &lent.leaving, &mut lent.layout);
     Some(least * (R * s.kelvin))
 }
 

@@ -38,7 +38,8 @@ fn built(line: &str) -> Result<(SDC2DSquare, Option<Lists>), Stop> {
     let case = Case::read(line.as_bytes())?;
     let lent = Lent::read(&case)?;
     lent.check()?;
-    let lists = Constraints::read(&case)?.map(|lists| lists.lists(lent.rows as usize, lent.cols as usize)).transpose()?;
+    let lists =
+        Constraints::read(&case)?.map(|lists| lists.lists(lent.rows as usize, lent.cols as usize)).transpose()?;
     Ok((energy::stocked(&lent, energy::concentrations(&lent.logs)?), lists))
 }
 

@@ -91,8 +91,9 @@ impl Lent {
         let layout = self.layout.iter().map(|&tile| u64::from(tile));
         let energies = self.energies.iter().map(|energy| energy.to_bits());
         let leaving = self.leaving.iter().map(|&tile| u64::from(tile));
-        layout.chain(energies).chain(leaving).fold(0xcbf2_9ce4_8422_2325, |sum, word| {
-            (sum ^ word).wrapping_mul(0x0000_0100_0000_01b3).rotate_left(23)
-        })
+        layout
+            .chain(energies)
+            .chain(leaving)
+            .fold(0xcbf2_9ce4_8422_2325, |sum, word| (sum ^ word).wrapping_mul(0x0000_0100_0000_01b3).rotate_left(23))
     }
 }
