@@ -1,5 +1,6 @@
 pub mod Examples
+pub mod Grids
 pub mod Reading
-pub mod Unique
+pub mod UniqueReading
 pub mod UniqueWriting
 pub mod Writing

@@ -3,32 +3,24 @@ use Prim.Native.Nat.{ℕ, _+_, _*_, _≤_, _<_}
 use mathlib.Core.Path.{_≡_, refl, sym, ap, _∙_}
 use mathlib.Core.Bool.{true, false, not, _&&_}
 use mathlib.Core.List.{List, [], _∷_}
-use native.Mathlib.Nat.{mul-le-mul}
 use native.Mathlib.Omega.{arith}
-use borrow.Author.Tests.{eq-eqb, ne-eqb, lt-ltb, le-ltb, leb-true}
-use lib.Dec.{eqb, leb, ltb}
+use borrow.Author.Tests.{eq-eqb, ne-eqb, lt-ltb, le-ltb}
+use lib.Dec.{eqb, ltb}
 use lib.ListN.{length}
+use Rattle.units.specs.declared.Check.{Check}
+use Rattle.units.specs.declared.Check.the-variants.{Refused}
+use Rattle.units.specs.declared.Refusal.{Refusal}
 use Rattle.units.specs.declared.CountAnswer.{CountAnswer}
-use Rattle.units.specs.Refusals.{Verdict, passes, refuses, refuseIf, _▷_, ifPasses, Prints}
+use Rattle.units.specs.declared.CountAnswer.the-variants.{Refused as Count·Refused}
+use Rattle.units.specs.Refusals.{Verdict, passes, refuses, refuseIf, _▷_, check, ifPasses, Prints}
 use Rattle.units.specs.Answers.{countAnswer, countRefusal}
-use Rattle.units.proofs.Verdicts.{Tabled, tabled-if, tabled-then}
-use Rattle.units.proofs.Answers.{a-count, given}
-use Rattle.case_numbers.proofs.Worth.{and-left, and-right}
+use Rattle.units.proofs.Verdicts.{Tabled, tabled-if, tabled-then, refused-first, refused-keeps}
+use Rattle.units.proofs.Answers.{a-count, given, refused}
 use Rattle.sheet_cells.specs.Cells.{sheetFault, sheetVerdict, allTiles, starts, front}
 use Rattle.sheet_cells.specs.Checks.{countIn, areCells, sheetCheck}
 use Rattle.sheet_cells.specs.declared.SheetCheck.{SheetCheck}
 use Rattle.sheet_cells.proofs.Sheets.{sheet-cells}
-use Rattle.sheet.specs.Read.{isSide, sheetLists, tileCount, readVerdict, readAnswer, offsetsAfter, tilesAfter}
-
--- the sides of a grid are at most 32, and so it has at most 1024 bays
-pub sides : (rows cols : ℕ) → isSide rows && isSide cols ≡ true → (rows ≤ 32) × (cols ≤ 32)
-sides rows cols g =
-    let r = and-left (isSide rows) (isSide cols) g in
-    let c = and-right (isSide rows) (isSide cols) g in
-    (leb-true rows 32 (and-right (leb 1 rows) (leb rows 32) r), leb-true cols 32 (and-right (leb 1 cols) (leb cols 32) c))
-
-pub few-bays : (rows cols : ℕ) → isSide rows && isSide cols ≡ true → rows * cols ≤ 1024
-few-bays rows cols g = let s = sides rows cols g in mul-le-mul (s .0) (s .1)
+use Rattle.sheet.specs.Read.{isSide, gridVerdict, sheetLists, tileCount, readVerdict, readAnswer, offsetsAfter, tilesAfter}
 
 module _ (rows cols : ℕ) (text offsets tiles : List ℕ) where
   -- what the contract asks of the answer and of the slices at exit
@@ -66,10 +58,21 @@ module _ (rows cols : ℕ) (text offsets tiles : List ℕ) where
       → r ≡ countAnswer (refuses number values) 0 → Read r offsets tiles
   refusing number values e r a = answers (refuses number values) e r offsets tiles a refl refl
 
-  pub grid-fault : isSide rows && isSide cols ≡ false → readVerdict rows cols text offsets tiles ≡ refuses 1 []
-  grid-fault g = rw g
+  -- a refusal of the grid decides the chain
+  pub grid-refuses : {x : Check} {q : Refusal} → x ≡ check (gridVerdict rows cols) → x ≡ Refused q → Read (Count·Refused q) offsets tiles
+  grid-refuses e f =
+      let v = readVerdict rows cols text offsets tiles in
+      let rest =
+      sheetVerdict rows cols text
+      ▷ refuseIf (not (eqb (length offsets) (rows * cols + 1))) 5 []
+      ▷ refuseIf (ltb (length tiles) (tileCount rows cols text)) 9 (tileCount rows cols text ∷ []) in
+      let first = refused-first (gridVerdict rows cols) rest e f in
+      let lists = sheetLists rows cols text in
+      let same = refused (a-count (tileCount rows cols text)) v first refl in
+      let printed = given (a-count (tileCount rows cols text)) v read-tabled same in
+      (printed .0, (printed .1, (refused-keeps v (starts 0 lists) offsets first refl, refused-keeps v (front (allTiles lists) tiles) tiles first refl)))
 
-  module _ (g : isSide rows && isSide cols ≡ true) (c : SheetCheck) (k : c ≡ sheetCheck rows cols text) where
+  module _ (g : gridVerdict rows cols ≡ passes) (c : SheetCheck) (k : c ≡ sheetCheck rows cols text) where
     line-is : c .line ≡ sheetFault cols 1 rows text .line
     line-is = ap (λ (s : SheetCheck). s .line) k
 

@@ -3,13 +3,11 @@ use Prim.Native.Nat.{ℕ, _+_, _-_, _*_, _^_, _≤_, _<_, min}
 use mathlib.Core.Bool.{true, not, _&&_}
 use mathlib.Core.List.{List, [], _∷_}
 use mathlib.Core.Path.{_≡_, refl, sym, ap, _∙_}
-use native.Mathlib.Nat.{mul-le-mul}
 use native.Mathlib.Omega.{arith}
-use borrow.Author.Tests.{lt-ltb, le-ltb, leb-true, not-false}
-use lib.Dec.{ltb, leb}
+use borrow.Author.Tests.{lt-ltb, le-ltb, not-false}
+use lib.Dec.{ltb}
 use lib.ListN.{length}
 use lib.Seq.{take-length}
-use Rattle.case_numbers.proofs.Worth.{and-left, and-right}
 use Rattle.units.specs.declared.Refusal.{Refusal}
 use Rattle.units.specs.declared.Check.{Check}
 use Rattle.units.specs.declared.Check.the-variants.{Passed, Refused}
@@ -27,14 +25,7 @@ use Rattle.sheet.specs.Read.{isSide, gridVerdict}
 use Rattle.sheet.specs.Write.{sheetBytes, bytesNeeded, writeVerdict, writeAnswer, textAfter}
 use Rattle.sheet.specs.Room.{shapeVerdict, listsVerdict, roomVerdict, Filled}
 
--- ---- a grid that passed
-
-pub few-bays : (rows columns : ℕ) → gridVerdict rows columns ≡ passes → rows * columns ≤ 1024
-few-bays rows columns e =
-    let sides = not-false (isSide rows && isSide columns) (no-fault (not (isSide rows && isSide columns)) 1 [] e) in
-    let r = leb-true rows 32 (and-right (leb 1 rows) (leb rows 32) (and-left (isSide rows) (isSide columns) sides)) in
-    let c = leb-true columns 32 (and-right (leb 1 columns) (leb columns 32) (and-right (isSide rows) (isSide columns) sides)) in
-    mul-le-mul r c
+-- ---- lists that passed
 
 pub shape-passed : (rows columns : ℕ) (offsets tiles : List ℕ) → listsVerdict rows columns offsets tiles ≡ passes
     → offsetsShaped (rows * columns) (constraints true offsets tiles) ≡ true

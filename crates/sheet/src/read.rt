@@ -5,9 +5,10 @@ ghost use Rattle.units.specs.Refusals.{Prints, refusal as Refusals·refusal};
 ghost use Rattle.units.specs.Answers.{countRefusal};
 ghost use Rattle.units.specs.declared.CountAnswer.the-variants.{Refused};
 ghost use Rattle.sheet.specs.Read.{readVerdict, readAnswer, offsetsAfter, tilesAfter};
-use crate::grid::is_grid;
+use crate::grid::check_grid;
 use sheet_cells::check_sheet;
 use sheet_lists::put_lists;
+use units::Check;
 use units::CountAnswer;
 use units::Refusal;
 
@@ -25,8 +26,9 @@ pub fn read_sheet(
     ensures offsets { λ r. ⌜ now (offsets .exit) ≡ offsetsAfter rows cols (now (text .entry)) (now (offsets .entry)) (now (tiles .entry)) ⌝ }
     ensures tiles { λ r. ⌜ now (tiles .exit) ≡ tilesAfter rows cols (now (text .entry)) (now (offsets .entry)) (now (tiles .entry)) ⌝ }
 {
-    if !is_grid(rows, cols) {
-        return refused(1, 0, 0);
+    match check_grid(rows, cols) {
+        Check::Refused(r) => return CountAnswer::Refused(r),
+        Check::Passed => (),
     }
     let bays = rows * cols;
     let check = check_sheet(text, rows, cols);

@@ -6,7 +6,7 @@ use Rattle.units.specs.Refusals.{passes}
 use Rattle.units.proofs.Verdicts.{refused-first, passed}
 use Rattle.sheet.specs.Read.{gridVerdict}
 use Rattle.sheet.specs.Room.{shapeVerdict}
-use Rattle.sheet.proofs.Writing.{few-bays}
+use Rattle.sheet.proofs.Grids.{few-bays}
 use borrow.Author.Needs.{needs}
 use Rattle.sheet.proofs.write.check_lists.Statement.{statement}
 use Rattle.sheet.proofs.write.check_lists.Tie as tie
