@@ -1,0 +1,4 @@
+pub mod Chains
+pub mod Examples
+pub mod LegalByRule
+pub mod SetsByReason
