@@ -1,8 +1,7 @@
 -- The definitions at small systems, computed. Assumes nothing.
-use Prim.Native.Nat.{ℕ}
 use mathlib.Core.Path.{_≡_, refl}
 use mathlib.Core.Bool.{true, false}
-use mathlib.Core.List.{List, [], _∷_, map}
+use mathlib.Core.List.{[], _∷_, map}
 use lib.Ieee.{round, ne}
 use Rattle.units.specs.Decimals.{decimal, plus, minus}
 use Rattle.bay_lists.specs.Lists.{Constraints, constraints, names}

@@ -5,23 +5,20 @@ use mathlib.Core.Bool.{Bool, true, false, cond, _&&_, _||_, true≢false}
 use mathlib.Core.List.{List, [], _∷_}
 use native.Mathlib.Omega.{arith}
 use lib.Dec.{eqb, ltb}
-use lib.ListN.{length}
-use borrow.Author.Tests.{lt-ltb, eqb-true, eq-eqb}
+use borrow.Author.Tests.{lt-ltb, eqb-true}
 use Rattle.units.specs.Refusals.{passes}
-use Rattle.sets.specs.Set.{word}
 use Rattle.sets.proofs.Words.{word-same}
 use Rattle.sets.proofs.Operations.{word-only}
 use Rattle.bay_lists.specs.Lists.{Constraints, constraints, names, listAllows, listOf}
 use Rattle.list_readers.specs.Reading.{onlyZeros}
 use Rattle.sdc2d.specs.System.{System, systemVerdict}
-use Rattle.sdc2d.proofs.Fine.{Fine, fine}
+use Rattle.sdc2d.proofs.Fine.{fine}
 use Rattle.legal_at.specs.declared.seeds.Seed.{Seed}
 use Rattle.legal_at.specs.declared.seeds.Seed.the-variants as seed
 use Rattle.legal_at.specs.Legal.{seedAt, permits, isLegal, setAt}
 use Rattle.legal_at.specs.OnGrid.{Below}
 use Rattle.legal_at.proofs.SeedBelow.{seed-below}
 use Rattle.legal_at.proofs.ChemistsQuestion.{no-restriction, seed-alone, seed-left-out}
-use Rattle.bay_reasons.specs.declared.bays.BayReason.{BayReason}
 use Rattle.bay_reasons.specs.declared.bays.BayReason.the-variants.{Seeded, KeptEmpty, Restricted, Free}
 use Rattle.bay_reasons.specs.Reasons.{listReason, reasonBy, reasonOf}
 

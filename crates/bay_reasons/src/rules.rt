@@ -6,7 +6,6 @@ ghost use lib.ListN.{length};
 ghost use Rattle.bonds.specs.Readable.{Readable};
 ghost use Rattle.legal_at.specs.OnGrid.{OnGrid};
 ghost use Rattle.bay_lists.specs.Lists.{constraints, offsetsShaped};
-ghost use Rattle.glue_readers.specs.Tables.{scaffoldGlue};
 ghost use Rattle.binding_strands.specs.Binding.{mayLie};
 ghost use Rattle.bay_reasons.specs.Reasons.{listRule, seedRule, glueRule, ruleAt};
 use binding_strands::binds;

@@ -1,19 +1,14 @@
 -- The ends of the lists of constraints that have their shape: they never fall and never pass the tiles. Assumes nothing.
 use Prim.Native.Nat.{ℕ, zero, suc, _+_, _-_, _≤_, _<_}
-use mathlib.Core.Path.{_≡_, refl, sym, _∙_, ap}
-use mathlib.Core.Bool.{Bool, true, false, _&&_, true≢false}
-use mathlib.Core.List.{List, []}
+use mathlib.Core.Path.{_≡_, refl}
+use mathlib.Core.Bool.{Bool, true, false}
+use mathlib.Core.List.{List}
 use native.Mathlib.Nat.{le-trans, le-refl, add-zero}
-use native.Mathlib.Decide.{decLt}
-use native.Mathlib.Numerals.{add-one}
 use native.Mathlib.Omega.{arith}
-use lib.Dec.{eqb}
 use lib.ListN.{length, getD}
-use borrow.Author.Tests.{eqb-true}
-use Rattle.entries.specs.Entries.{part, offsetsFit}
+use Rattle.entries.specs.Entries.{part}
 use Rattle.entries.proofs.Bounds.{entry-starts, offset-within}
-use Rattle.entries.proofs.Same.{both}
-use Rattle.bay_lists.specs.Lists.{Constraints, constraints, listOf, offsetsShaped}
+use Rattle.bay_lists.specs.Lists.{constraints, listOf, offsetsShaped}
 use Rattle.bay_lists.proofs.Restricting.{ListShape, list-shape}
 use Rattle.list_readers.specs.Reading.{offsetAt}
 

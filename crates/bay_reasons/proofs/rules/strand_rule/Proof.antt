@@ -1,10 +1,9 @@
 -- `bay_reasons::rules::strand_rule` meets its contract, by the strand's number, the bay's seed, its glue and its list. Assumes nothing.
 use Prim.Native.Nat.{ℕ}
-use mathlib.Core.Bool.{Bool}
 use mathlib.Core.List.{List}
-use mathlib.Core.Path.{_≡_, _∙_, ap}
+use mathlib.Core.Path.{_∙_, ap}
 use denote.Ref.{now}
-use Rattle.bay_lists.specs.Lists.{constraints, listOf, listAllows}
+use Rattle.bay_lists.specs.Lists.{constraints, listAllows}
 use Rattle.bay_reasons.proofs.Chains.{no-strand, seeded-bay, unseeded-bay}
 use borrow.Author.Needs.{needs}
 use Rattle.bay_reasons.proofs.rules.strand_rule.Statement.{statement}
