@@ -18,7 +18,7 @@ use Rattle.legal_at.specs.Legal.{seedAt}
 use Rattle.bay_reasons.specs.declared.bays.BayReason.{BayReason}
 use Rattle.bay_reasons.specs.declared.bays.BayReason.the-variants.{Seeded, KeptEmpty, Restricted, Free}
 use Rattle.bay_reasons.specs.declared.rules.StrandRule.{StrandRule}
-use Rattle.bay_reasons.specs.declared.rules.StrandRule.the-variants.{Unknown}
+use Rattle.bay_reasons.specs.declared.rules.StrandRule.the-variants.{Legal, OtherSeed, NoBond, NotNamed, Unknown}
 use Rattle.bay_reasons.specs.Reasons.{listReason, reasonBy, reasonAt, seedRule, glueRule, ruleBy, ruleAt}
 
 -- ---- the list of an unseeded bay
@@ -58,3 +58,8 @@ module _ (z : Sizes) (strandGlues scaffold : List ℕ) (deltaG entropy : List Fl
     pub unseeded-bay : x ≡ seed.Unseeded → {glue : ℕ} → glue ≡ scaffoldGlue scaffold bay
         → {r : StrandRule} → r ≡ glueRule (mayLie strandGlues deltaG entropy (z .glues) glue strand) allowed → r ≡ ruleAt z strandGlues scaffold deltaG entropy seeds c bay strand
     unseeded-bay f g made = made ∙ ap (λ (n : ℕ). glueRule (mayLie strandGlues deltaG entropy (z .glues) n strand) allowed) g ∙ by-seed f
+
+-- ---- the three tests in a row, of which the second one's rule depends on whether the bay is seeded
+
+abbrev pub chain : (seeded known permitted allowed : Bool) → StrandRule
+chain seeded known permitted allowed = cond known (cond permitted (cond allowed Legal NotNamed) (cond seeded OtherSeed NoBond)) Unknown
