@@ -1,13 +1,16 @@
 -- What is the same for every text with a quote in it can be told from the bytes between a field's quotes as they stand. Assumes nothing.
-use Prim.Native.Nat.{ℕ, suc}
-use mathlib.Core.Bool.{Bool, true, false, cond, _&&_, _||_}
+use Prim.Native.Nat.{ℕ, suc, _+_, _-_}
+use mathlib.Core.Bool.{Bool, true, false, cond, not, _&&_, _||_}
 use mathlib.Core.List.{List, [], _∷_}
 use mathlib.Core.Path.{_≡_, refl, sym, ap, _∙_}
+use native.Mathlib.Nat.{sub-zero}
 use native.Mathlib.Omega.{arith}
 use borrow.Author.Tests.{ne-eqb}
 use lib.Dec.{eqb}
-use lib.ListN.{length}
-use Rattle.sheet_fields.specs.Fields.{isQuoted, unquoted, raw, content}
+use lib.ListN.{length, take, drop}
+use Rattle.sheet_fields.specs.Fields.{isPlain, plainLength, endingOf, fieldOf, bareField, quotedField, isQuoted, field, unquoted, raw, content}
+use Rattle.sheet_fields.specs.declared.Ending.{Ending}
+use Rattle.sheet_fields.specs.declared.Field.{Field}
 
 unfoldable pub hasQuote : List ℕ → Bool
 hasQuote [] = false
@@ -62,11 +65,53 @@ module _ {B : Type 0} (read : List ℕ → B) (none : B) (quotes : (t : List ℕ
       go true = read-unquoted (raw t)
       go false = refl
 
+-- bytes that can stand in a field without quotes have none: what any field's bytes stand for is told alike
+plain-no-quote : (b : ℕ) → isPlain b ≡ true → eqb b 34 ≡ false
+unfolding isPlain
+plain-no-quote b e = go (eqb b 34) (eqb b 44) e
+  where
+    go : (q p : Bool) → not (p || (q || (eqb b 13 || eqb b 10))) ≡ true → q ≡ false
+    go true true k = sym k
+    go true false k = sym k
+    go false p k = refl
+
+plain-front : (t : List ℕ) → hasQuote (take (plainLength t) t) ≡ false
+unfolding hasQuote plainLength
+plain-front [] = refl
+plain-front (b ∷ t) = go (isPlain b) refl (plain-front t)
+  where
+    go : (p : Bool) → isPlain b ≡ p → hasQuote (take (plainLength t) t) ≡ false → hasQuote (take (cond p (suc (plainLength t)) 0) (b ∷ t)) ≡ false
+    go true e h = rw (plain-no-quote b e) h
+    go false e h = refl
+
+abbrev between : Field → List ℕ → List ℕ
+between f t = take (f .to - f .from) (drop (f .from) t)
+
+bare-no-quote : (t : List ℕ) (e : Ending) → hasQuote (between (fieldOf 0 (plainLength t) (plainLength t) e) t) ≡ false
+unfolding fieldOf hasQuote
+bare-no-quote t e = go (e .sound)
+  where
+    n : ℕ
+    n = plainLength t
+
+    go : (s : Bool) → hasQuote (between (cond s (record { sound = true; more = e .more; from = 0; to = n; next = n + e .width }) (record { sound = false; more = false; from = 0; to = 0; next = 0 })) t) ≡ false
+    go true = rw (sub-zero n) (plain-front t)
+    go false = refl
+
+pub content-unquoted : (t : List ℕ) → unquoted (raw t) ≡ content t
+unfolding content raw field bareField
+content-unquoted t = go (isQuoted t)
+  where
+    go : (q : Bool) → unquoted (between (cond q (quotedField t) (bareField t)) t)
+        ≡ cond q (unquoted (between (cond q (quotedField t) (bareField t)) t)) (between (cond q (quotedField t) (bareField t)) t)
+    go true = refl
+    go false = unquoted-same _ (bare-no-quote t (endingOf (drop (plainLength t) t)))
+
 -- a content has bytes where any stand between the field's places
 some : (n : ℕ) → eqb (suc n) 0 ≡ false
 some n = ne-eqb (suc n) 0 (λ (e : suc n ≡ 0). omega arith)
 
-unquoted-blank : (r : List ℕ) → eqb (length (unquoted r)) 0 ≡ eqb (length r) 0
+pub unquoted-blank : (r : List ℕ) → eqb (length (unquoted r)) 0 ≡ eqb (length r) 0
 unfolding unquoted
 unquoted-blank [] = refl
 unquoted-blank (a ∷ []) = refl
