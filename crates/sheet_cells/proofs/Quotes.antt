@@ -41,7 +41,7 @@ joined-digits b (w ∷ ws) e =
       both (allDigits 10 w) (digitsOnly ws) (and-right (ltb (digit b) 10) (allDigits 10 w) first) (and-right (ltb (digit b) 10 && allDigits 10 w) (digitsOnly ws) e),
     )
 
-no-quote-digit : (b : ℕ) → ltb (digit b) 10 ≡ true → eqb b 34 ≡ false
+pub no-quote-digit : (b : ℕ) → ltb (digit b) 10 ≡ true → eqb b 34 ≡ false
 unfolding digit
 no-quote-digit b e = go (eqb b 34) refl
   where
