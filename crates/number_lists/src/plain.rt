@@ -7,7 +7,7 @@ use case_numbers::Number;
 use case_numbers::whole;
 
 // Whether a word is a number, and its value, 0 where it is none.
-pub(crate) struct PlainNumber {
+pub struct PlainNumber {
     pub sound: bool,
     pub value: u32,
 }
@@ -35,7 +35,7 @@ pub(crate) fn number_in(content: &[u8], from: usize, to: usize) -> PlainNumber
 }
 
 // The number that a word is: decimal digits, no 0 in front of another digit, below 2^32.
-fn plain_number(word: &[u8]) -> PlainNumber
+pub fn plain_number(word: &[u8]) -> PlainNumber
     ensures { λ r. ⌜ r ≡ plainNumber (now (word .entry)) ⌝ }
 {
     if word.len() == 0 {

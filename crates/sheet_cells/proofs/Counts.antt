@@ -1,18 +1,17 @@
--- Laws of the first fields of a text: how many numbers and bytes they have, and where the next one stands. Assumes nothing.
-use Prim.Native.Nat.{ℕ, zero, suc, _+_, _-_, _≤_, zero-le}
+-- Laws of the first fields of a text: how many numbers they have. Assumes nothing.
+use Prim.Native.Nat.{ℕ, zero, suc, _+_, _≤_, zero-le}
 use mathlib.Core.Bool.{Bool, true, false, _&&_}
 use mathlib.Core.List.{List}
-use mathlib.Core.Path.{_≡_, refl, sym, _∙_}
+use mathlib.Core.Path.{_≡_, refl}
 use native.Mathlib.Nat.{zero-add, suc-add}
 use native.Mathlib.Omega.{arith}
-use lib.ListN.{length, drop, length-append, length-drop}
-use lib.Seq.{drop-drop}
+use lib.ListN.{length, length-append}
 use Rattle.case_numbers.proofs.Worth.{and-left, and-right}
 use Rattle.sheet_fields.specs.Fields.{field, content, after}
-use Rattle.sheet_fields.proofs.Bounds.{field-within}
+use Rattle.sheet_fields.specs.Runs.{past, bytesIn}
 use Rattle.number_lists.specs.NumberLists.{listIn}
-use Rattle.sheet_cells.specs.Cells.{isCell, cells, past, allTiles}
-use Rattle.sheet_cells.specs.Checks.{countIn, areCells, bytesIn}
+use Rattle.sheet_cells.specs.Cells.{isCell, cells, allTiles}
+use Rattle.sheet_cells.specs.Checks.{countIn, areCells}
 use Rattle.sheet_cells.proofs.Quotes.{cell-length}
 
 pub count-none : (t : List ℕ) → countIn 0 t ≡ 0
@@ -38,20 +37,6 @@ cells-add (suc m) n t = rw (suc-add m n, cells-add m n (after t)) (go (isCell t)
     go : (p : Bool) → p && (areCells m (after t) && areCells n (past m (after t))) ≡ (p && areCells m (after t)) && areCells n (past m (after t))
     go true = refl
     go false = refl
-
-pub bytes-within : (k : ℕ) (t : List ℕ) → bytesIn k t ≤ length t
-unfolding bytesIn after
-bytes-within zero t = zero-le
-bytes-within (suc k) t =
-    let n = field t .next in
-    let w = field-within t .ends in
-    let more : bytesIn k (drop n t) ≤ length t - n = rw (← length-drop n t) (bytes-within k (drop n t)) in
-    omega arith
-
-pub drop-bytes : (k : ℕ) (t : List ℕ) → drop (bytesIn k t) t ≡ past k t
-unfolding bytesIn past after
-drop-bytes zero t = refl
-drop-bytes (suc k) t = sym (drop-drop (bytesIn k (after t)) (field t .next) t) ∙ drop-bytes k (after t)
 
 -- every number takes a byte
 pub count-within : (k : ℕ) (t : List ℕ) → areCells k t ≡ true → countIn k t ≤ bytesIn k t

@@ -9,39 +9,11 @@ use lib.Dec.{eqb, leb, ltb}
 use lib.ListN.{length, length-map}
 use Rattle.case_numbers.specs.Digits.{digit, allDigits}
 use Rattle.case_numbers.proofs.Worth.{and-left, and-right}
-use Rattle.sheet_fields.specs.Fields.{isQuoted, field, unquoted, raw, content}
+use Rattle.sheet_fields.specs.Fields.{field, raw, content}
 use Rattle.sheet_fields.proofs.Bounds.{raw-length}
+use Rattle.sheet_fields.proofs.Quotes.{hasQuote, content-same, read-content}
 use Rattle.number_lists.specs.NumberLists.{joined, words, isPlainNumber, areNumbers, valueOf, isList, listIn}
 use Rattle.sheet_cells.specs.Cells.{isCell}
-
--- ---- texts without a quote
-
-unfoldable hasQuote : List ℕ → Bool
-hasQuote [] = false
-hasQuote (b ∷ t) = eqb b 34 || hasQuote t
-
-unquoted-quote : (r : List ℕ) → hasQuote (unquoted r) ≡ hasQuote r
-unfolding hasQuote unquoted
-unquoted-quote [] = refl
-unquoted-quote (a ∷ []) = refl
-unquoted-quote (a ∷ b ∷ t) = go (eqb a 34) (eqb b 34) refl (unquoted-quote (b ∷ t))
-  where
-    go : (p q : Bool) → eqb a 34 ≡ p → hasQuote (unquoted (b ∷ t)) ≡ hasQuote (b ∷ t)
-        → hasQuote (cond (p && q) (a ∷ unquoted t) (a ∷ unquoted (b ∷ t))) ≡ p || hasQuote (b ∷ t)
-    go true true e h = rw e
-    go true false e h = rw e
-    go false q e h = rw e h
-
-unquoted-same : (r : List ℕ) → hasQuote r ≡ false → unquoted r ≡ r
-unfolding hasQuote unquoted
-unquoted-same [] e = refl
-unquoted-same (a ∷ []) e = refl
-unquoted-same (a ∷ b ∷ t) e = go (eqb a 34) e (unquoted-same (b ∷ t))
-  where
-    go : (p : Bool) → p || hasQuote (b ∷ t) ≡ false → (hasQuote (b ∷ t) ≡ false → unquoted (b ∷ t) ≡ b ∷ t)
-        → cond (p && eqb b 34) (a ∷ unquoted t) (a ∷ unquoted (b ∷ t)) ≡ a ∷ b ∷ t
-    go true k h = let z : _≡_ {A = ℕ} 0 1 = cc in absurd (omega arith)
-    go false k h = ap (λ (l : List ℕ). a ∷ l) (h k)
 
 -- ---- a list of numbers has no quote
 
@@ -69,7 +41,7 @@ joined-digits b (w ∷ ws) e =
       both (allDigits 10 w) (digitsOnly ws) (and-right (ltb (digit b) 10) (allDigits 10 w) first) (and-right (ltb (digit b) 10 && allDigits 10 w) (digitsOnly ws) e),
     )
 
-no-quote-digit : (b : ℕ) → ltb (digit b) 10 ≡ true → eqb b 34 ≡ false
+pub no-quote-digit : (b : ℕ) → ltb (digit b) 10 ≡ true → eqb b 34 ≡ false
 unfolding digit
 no-quote-digit b e = go (eqb b 34) refl
   where
@@ -94,31 +66,18 @@ list-no-quote (b ∷ t) e = no-quote-words (b ∷ t) (numbers-digits (words (b �
 
 -- ---- the content of a field and its bytes
 
-unquoted-list : (r : List ℕ) → isList (unquoted r) ≡ isList r
-unquoted-list r = go (isList (unquoted r)) (isList r) refl refl
+quote-no-list : (r : List ℕ) → hasQuote r ≡ true → isList r ≡ false
+quote-no-list r e = go (isList r) refl
   where
-    go : (p q : Bool) → isList (unquoted r) ≡ p → isList r ≡ q → p ≡ q
-    go true q e f =
-        let none : hasQuote r ≡ false = sym (unquoted-quote r) ∙ list-no-quote (unquoted r) e in
-        sym e ∙ ap isList (unquoted-same r none) ∙ f
-    go false true e f = sym e ∙ ap isList (unquoted-same r (list-no-quote r f)) ∙ f
-    go false false e f = refl
+    go : (p : Bool) → isList r ≡ p → p ≡ false
+    go true k = sym e ∙ list-no-quote r k
+    go false k = refl
 
 pub content-list : (t : List ℕ) → isList (content t) ≡ isList (raw t)
-unfolding content
-content-list t = go (isQuoted t)
-  where
-    go : (q : Bool) → isList (cond q (unquoted (raw t)) (raw t)) ≡ isList (raw t)
-    go true = unquoted-list (raw t)
-    go false = refl
+content-list = read-content isList false quote-no-list
 
 pub content-raw : (t : List ℕ) → isList (raw t) ≡ true → content t ≡ raw t
-unfolding content
-content-raw t e = go (isQuoted t)
-  where
-    go : (q : Bool) → cond q (unquoted (raw t)) (raw t) ≡ raw t
-    go true = unquoted-same (raw t) (list-no-quote (raw t) e)
-    go false = refl
+content-raw t e = content-same t (list-no-quote (raw t) e)
 
 -- ---- every number takes a byte
 

@@ -9,13 +9,14 @@ use borrow.Author.Tests.{eq-eqb, ne-eqb}
 use lib.Dec.{eqb}
 use lib.ListN.{length, take, drop, length-drop, drop-of-length-le}
 use Rattle.sheet_fields.specs.Fields.{field, raw, content, after, fieldAt}
+use Rattle.sheet_fields.specs.Runs.{bytesIn, goesOn}
 use Rattle.sheet_fields.specs.declared.Field.{Field}
 use Rattle.sheet_fields.proofs.Bounds.{field-at-within, after-at, raw-at}
 use Rattle.number_lists.specs.NumberLists.{isList, listIn}
 use Rattle.number_lists.specs.Counts.{listCount}
 use Rattle.number_lists.specs.declared.ListCount.{ListCount}
-use Rattle.sheet_cells.specs.Cells.{isCell, goesOn, rowFault}
-use Rattle.sheet_cells.specs.Checks.{countIn, areCells, bytesIn, cellAt, cellFault, recordFault, recordAt}
+use Rattle.sheet_cells.specs.Cells.{isCell, rowFault}
+use Rattle.sheet_cells.specs.Checks.{countIn, areCells, cellAt, cellFault, recordFault, recordAt}
 use Rattle.sheet_cells.specs.declared.cells.Cell.{Cell}
 use Rattle.sheet_cells.specs.declared.cells.RecordCheck.{RecordCheck}
 use Rattle.sheet_cells.proofs.Quotes.{content-list, content-raw, cell-length}

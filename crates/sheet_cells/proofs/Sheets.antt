@@ -8,12 +8,13 @@ use native.Mathlib.Omega.{arith}
 use borrow.Author.Tests.{eq-eqb, ne-eqb, eqb-true}
 use lib.Dec.{eqb}
 use lib.ListN.{length, drop, length-drop}
-use lib.Seq.{drop-drop}
-use Rattle.sheet_cells.specs.Cells.{past, rowFault, place, sheetFault}
-use Rattle.sheet_cells.specs.Checks.{countIn, areCells, bytesIn, recordFault, recordAt, sheetCheck}
+use Rattle.sheet_fields.specs.Runs.{past, bytesIn}
+use Rattle.sheet_fields.proofs.Runs.{bytes-within, past-at}
+use Rattle.sheet_cells.specs.Cells.{rowFault, place, sheetFault}
+use Rattle.sheet_cells.specs.Checks.{countIn, areCells, recordFault, recordAt, sheetCheck}
 use Rattle.sheet_cells.specs.declared.SheetCheck.{SheetCheck}
 use Rattle.sheet_cells.specs.declared.cells.RecordCheck.{RecordCheck}
-use Rattle.sheet_cells.proofs.Counts.{count-none, count-add, cells-add, bytes-within, drop-bytes, count-within}
+use Rattle.sheet_cells.proofs.Counts.{count-none, count-add, cells-add, count-within}
 use Rattle.sheet_cells.proofs.Records.{fault-none}
 
 -- ---- the first record
@@ -144,7 +145,7 @@ module _ (rows columns : ℕ) (text : List ℕ) (line next count : ℕ) (s : InS
       count-is = ap (λ (d : RecordCheck). d .count) e ∙ rw fine
 
       rest : drop (c .next) text ≡ past columns here
-      rest = rw next-is (sym (drop-drop (bytesIn columns here) next text) ∙ drop-bytes columns here)
+      rest = rw next-is (past-at columns text next)
 
       pub few-more : count + c .count ≤ c .next
       few-more =

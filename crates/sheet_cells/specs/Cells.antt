@@ -6,6 +6,7 @@ use lib.Dec.{eqb, ltb}
 use lib.ListN.{length, drop}
 use Rattle.units.specs.Refusals.{Verdict, refuseIf}
 use Rattle.sheet_fields.specs.Fields.{field, content, after}
+use Rattle.sheet_fields.specs.Runs.{past, goesOn}
 use Rattle.number_lists.specs.NumberLists.{isList, listIn}
 use Rattle.sheet_cells.specs.declared.Place.{Place}
 
@@ -13,18 +14,10 @@ use Rattle.sheet_cells.specs.declared.Place.{Place}
 unfoldable pub isCell : List ℕ → Bool
 isCell t = field t .sound && isList (content t)
 
--- the lists of the fields that a text begins with, and the text after so many fields
+-- the lists of the fields that a text begins with
 unfoldable pub cells : ℕ → List ℕ → List (List ℕ)
 cells zero t = []
 cells (suc k) t = listIn (content t) ∷ cells k (after t)
-
-unfoldable pub past : ℕ → List ℕ → List ℕ
-past zero t = t
-past (suc k) t = past k (after t)
-
--- the field at the front is followed by another one of its record exactly where fields are left
-unfoldable pub goesOn : (left : ℕ) → List ℕ → Bool
-goesOn left t = cond (field t .more) (ltb 0 left) (eqb left 0)
 
 -- of a record, the number of the first field that is bad, missing or surplus; 0 where none is
 unfoldable pub rowFault : (column left : ℕ) → List ℕ → ℕ

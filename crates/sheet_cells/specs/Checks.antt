@@ -5,6 +5,7 @@ use mathlib.Core.List.{List}
 use lib.Dec.{eqb, ltb}
 use lib.ListN.{length, drop}
 use Rattle.sheet_fields.specs.Fields.{field, content, after}
+use Rattle.sheet_fields.specs.Runs.{bytesIn}
 use Rattle.number_lists.specs.NumberLists.{listIn}
 use Rattle.sheet_cells.specs.Cells.{isCell, cells, rowFault, sheetFault, allTiles}
 use Rattle.sheet_cells.specs.declared.cells.Cell.{Cell}
@@ -19,11 +20,6 @@ countIn k t = length (allTiles (cells k t))
 unfoldable pub areCells : ℕ → List ℕ → Bool
 areCells zero t = true
 areCells (suc k) t = isCell t && areCells k (after t)
-
--- how many bytes the first fields of a text take with their ends
-unfoldable pub bytesIn : ℕ → List ℕ → ℕ
-bytesIn zero t = 0
-bytesIn (suc k) t = field t .next + bytesIn k (after t)
 
 -- the field at a place: whether it is a cell, whether its record goes on, the place after it, and how many numbers it has
 abbrev pub cellAt : List ℕ → ℕ → Cell

@@ -1,2 +1,4 @@
 pub mod Bounds
+pub mod Quotes
+pub mod Runs
 pub mod Scanning

@@ -12,23 +12,19 @@ use Rattle.units.specs.Refusals.{passes}
 use Rattle.units.proofs.Verdicts.{no-fault}
 use Rattle.sheet_fields.specs.Fields.{field, content, after}
 use Rattle.number_lists.specs.NumberLists.{isList, listIn}
-use Rattle.sheet_cells.specs.Cells.{isCell, cells, past, goesOn, rowFault, place, sheetFault, sheetVerdict}
-use Rattle.sheet_grammar.specs.Contents.{contents}
+use Rattle.sheet_fields.specs.Runs.{contents, past, goesOn}
+use Rattle.sheet_fields.proofs.Runs.{contents-add}
+use Rattle.sheet_cells.specs.Cells.{isCell, cells, rowFault, place, sheetFault, sheetVerdict}
 use Rattle.sheet_grammar.specs.Grammar.{RecordText, last, comma, LineEnd, lf, crlf, SheetText, none, line, open-ended}
 use Rattle.sheet_grammar.proofs.OneField.{Separator, at-end, at-comma, at-line, Begins, field-read, cell-text, cell-read}
 
 -- ---- the fields after some fields
 
--- the lists and the contents of some fields are those of the first and of the rest
+-- the lists of some fields are those of the first and of the rest
 pub cells-add : (a b : ℕ) (t : List ℕ) → cells (a + b) t ≡ cells a t ++ cells b (past a t)
 unfolding cells past
 cells-add zero b t = rw (zero-add b)
 cells-add (suc a) b t = rw (suc-add a b) (ap (λ (ls : List (List ℕ)). listIn (content t) ∷ ls) (cells-add a b (after t)))
-
-pub contents-add : (a b : ℕ) (t : List ℕ) → contents (a + b) t ≡ contents a t ++ contents b (past a t)
-unfolding contents past
-contents-add zero b t = rw (zero-add b)
-contents-add (suc a) b t = rw (suc-add a b) (ap (λ (cs : List (List ℕ)). content t ∷ cs) (contents-add a b (after t)))
 
 -- one row more
 pub one-row : (rows columns : ℕ) → suc rows * columns ≡ columns + rows * columns

@@ -11,7 +11,8 @@ use lib.ListN.{length}
 use borrow.Author.Tests.{ltb-true, ltb-false, lt-ltb, le-ltb, eqb-true, eqb-false, eq-eqb, ne-eqb}
 use Rattle.units.specs.Refusals.{refuses, refuseIf}
 use Rattle.sheet_fields.specs.Fields.{field, after}
-use Rattle.sheet_cells.specs.Cells.{isCell, past, goesOn, rowFault, place, sheetFault, sheetVerdict}
+use Rattle.sheet_fields.specs.Runs.{past, goesOn}
+use Rattle.sheet_cells.specs.Cells.{isCell, rowFault, place, sheetFault, sheetVerdict}
 use Rattle.sheet_cells.specs.declared.Place.{Place}
 use Rattle.sheet_grammar.specs.FirstFault.{Right, WrongField, bad, missing, surplus, FirstWrong, RightRecord, WrongRecord, no-record, surplus-record, in-record, FirstFault}
 

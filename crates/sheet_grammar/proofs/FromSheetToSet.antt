@@ -21,9 +21,10 @@ use Rattle.legal.specs.Sets.{bays, setsOf, shapeVerdict, emptyVerdict, allowedV
 use Rattle.legal.proofs.Seven.{set-of-bay}
 use Rattle.sheet_fields.specs.Fields.{content, after}
 use Rattle.number_lists.specs.NumberLists.{isList, listIn}
+use Rattle.sheet_fields.specs.Runs.{contents}
 use Rattle.sheet_cells.specs.Cells.{cells, allTiles, starts, front}
 use Rattle.sheet.specs.Read.{sheetLists, tileCount, readVerdict, offsetsAfter, tilesAfter}
-use Rattle.sheet_grammar.specs.Contents.{contents, sheetConstraints, bayContent}
+use Rattle.sheet_grammar.specs.Contents.{sheetConstraints, bayContent}
 use Rattle.sheet_grammar.specs.Grammar.{RecordText, last, comma, SheetText, none, line, open-ended}
 use Rattle.sheet_grammar.proofs.Contents.{0-reads-as-0, only-0-reads-as-0, nothing-reads-as-empty, only-nothing-reads-as-empty}
 use Rattle.sheet_grammar.proofs.OneField.{cell-read}

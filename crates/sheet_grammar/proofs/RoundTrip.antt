@@ -15,11 +15,12 @@ use Rattle.answer_texts.specs.Puts.{numberText}
 use Rattle.bay_lists.specs.Lists.{Constraints, constraints, listOf, offsetsShaped}
 use Rattle.entries.specs.Entries.{part}
 use Rattle.entries.proofs.Same.{both}
+use Rattle.sheet_fields.specs.Runs.{contents}
 use Rattle.sheet_cells.specs.Cells.{place, sheetFault, allTiles, starts, front}
 use Rattle.sheet_text.specs.Written.{gap, spaced, separator, rowText, sheetText}
 use Rattle.sheet.specs.Read.{isSide, gridVerdict, sheetLists, tileCount, readVerdict, offsetsAfter, tilesAfter}
 use Rattle.sheet.specs.Write.{sheetBytes, bytesNeeded, writeVerdict, textAfter}
-use Rattle.sheet_grammar.specs.Contents.{contents, listsOf}
+use Rattle.sheet_grammar.specs.Contents.{listsOf}
 use Rattle.sheet_grammar.specs.Grammar.{NumbersText, one, another, ListText, nothing, numbers, bare, RecordText, last, comma, crlf, SheetText, none, line}
 use Rattle.sheet_grammar.proofs.Numbers.{text-worth, text-is-plain}
 use Rattle.sheet_grammar.proofs.Offsets.{same-offsets, same-tiles}

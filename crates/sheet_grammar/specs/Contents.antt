@@ -1,18 +1,12 @@
--- The contents of the fields that a text begins with, the lists of the bays from one on, both in reading order, and what a sheet says of a
--- bay. Assumes nothing.
+-- The lists of the bays from one on, in reading order, and what a sheet says of a bay. Assumes nothing.
 use Prim.Native.Nat.{ℕ, zero, suc, _+_, _*_}
 use mathlib.Core.Bool.{true}
 use mathlib.Core.List.{List, [], _∷_}
 use lib.ListN.{getD}
 use Rattle.bay_lists.specs.Lists.{Constraints, constraints, listOf}
-use Rattle.sheet_fields.specs.Fields.{content, after}
+use Rattle.sheet_fields.specs.Runs.{contents}
 use Rattle.sheet_cells.specs.Cells.{allTiles, starts}
 use Rattle.sheet.specs.Read.{sheetLists}
-
--- of so many fields, quotes taken off
-unfoldable pub contents : ℕ → List ℕ → List (List ℕ)
-contents zero t = []
-contents (suc k) t = content t ∷ contents k (after t)
 
 -- of so many bays
 unfoldable pub listsOf : Constraints → (bay count : ℕ) → List (List ℕ)

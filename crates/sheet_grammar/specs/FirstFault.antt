@@ -7,7 +7,8 @@ use mathlib.Core.List.{List}
 use lib.Dec.{ltb}
 use lib.ListN.{length}
 use Rattle.sheet_fields.specs.Fields.{field}
-use Rattle.sheet_cells.specs.Cells.{isCell, past}
+use Rattle.sheet_fields.specs.Runs.{past}
+use Rattle.sheet_cells.specs.Cells.{isCell}
 
 -- field j, from 0, of a record that begins a text is right: it is a cell, and a comma follows it exactly where fields are left
 pub record Right (columns : ℕ) (t : List ℕ) (j : ℕ) : Type 0 where

@@ -1,0 +1,25 @@
+-- The fields that a text begins with, one after the other: their contents, how many bytes they take, and what follows them. Assumes nothing.
+use Prim.Native.Nat.{ℕ, zero, suc, _+_}
+use mathlib.Core.Bool.{Bool, cond}
+use mathlib.Core.List.{List, [], _∷_}
+use lib.Dec.{eqb, ltb}
+use Rattle.sheet_fields.specs.Fields.{field, content, after}
+
+-- the contents of so many fields, quotes taken off
+unfoldable pub contents : ℕ → List ℕ → List (List ℕ)
+contents zero t = []
+contents (suc k) t = content t ∷ contents k (after t)
+
+-- the text after so many fields
+unfoldable pub past : ℕ → List ℕ → List ℕ
+past zero t = t
+past (suc k) t = past k (after t)
+
+-- how many bytes so many fields take with their ends
+unfoldable pub bytesIn : ℕ → List ℕ → ℕ
+bytesIn zero t = 0
+bytesIn (suc k) t = field t .next + bytesIn k (after t)
+
+-- the field at the front is followed by another one of its record exactly where fields are left
+unfoldable pub goesOn : (left : ℕ) → List ℕ → Bool
+goesOn left t = cond (field t .more) (ltb 0 left) (eqb left 0)

@@ -1,0 +1,4 @@
+pub mod Appending
+mod Examples
+pub mod Filling
+pub mod Unquoting

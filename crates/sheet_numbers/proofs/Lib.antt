@@ -1,0 +1,3 @@
+mod Examples
+pub mod QuotedNumbers
+pub mod Walk

@@ -1,0 +1,3 @@
+pub mod Counts
+pub mod Faults
+pub mod Floats
