@@ -33,16 +33,16 @@ count-in (x ∷ xs) n (suc i) a h =
     let e : suc n + i ≡ n + suc i = omega arith in
     count-in xs (suc n) i (agree-here (eqb x (valueCount n)) (agree xs (suc n)) a .1) (le-of-suc-le-suc h) ∙ ap valueCount e
 
--- the counts of the numbers up to 18, as the code has them
+-- the counts of the numbers up to 19, as the code has them
 abbrev pub counts : List ℕ
-counts = 0 ∷ 0 ∷ 1 ∷ 1 ∷ 1 ∷ 0 ∷ 1 ∷ 1 ∷ 0 ∷ 1 ∷ 0 ∷ 2 ∷ 0 ∷ 0 ∷ 1 ∷ 1 ∷ 1 ∷ 0 ∷ 1 ∷ []
+counts = 0 ∷ 0 ∷ 1 ∷ 1 ∷ 1 ∷ 0 ∷ 1 ∷ 1 ∷ 0 ∷ 1 ∷ 0 ∷ 2 ∷ 0 ∷ 0 ∷ 1 ∷ 1 ∷ 1 ∷ 0 ∷ 1 ∷ 2 ∷ []
 
-pub count-at : (n : ℕ) → n < 19 → getD counts n 0 ≡ valueCount n
+pub count-at : (n : ℕ) → n < 20 → getD counts n 0 ≡ valueCount n
 unfolding agree
 count-at n h = count-in counts 0 n refl h ∙ ap valueCount (zero-add n)
 
--- a number past document 01's table has no values
-pub count-past : (n : ℕ) → 19 ≤ n → 0 ≡ valueCount n
+-- a number past the last one has no values
+pub count-past : (n : ℕ) → 20 ≤ n → 0 ≡ valueCount n
 count-past n h =
     simp (
       ne-eqb n 2 (omega arith),
@@ -56,6 +56,7 @@ count-past n h =
       ne-eqb n 15 (omega arith),
       ne-eqb n 16 (omega arith),
       ne-eqb n 18 (omega arith),
+      ne-eqb n 19 (omega arith),
     )
 
 -- ---- the line

@@ -26,13 +26,13 @@ pub fn put_value(out: &mut [u8], at: usize, sign: &[u8], value: usize) -> usize
     put_number(out, next, value as u64)
 }
 
-// How many values stand beside a number in document 01's table.
+// How many values stand beside a number: those of document 01's table, and 19, which is a sheet's.
 fn value_count(number: u32) -> usize
     ensures { λ r. ⌜ r ≡ valueCount number ⌝ }
 {
-    let counts: [usize; 19] = [0, 0, 1, 1, 1, 0, 1, 1, 0, 1, 0, 2, 0, 0, 1, 1, 1, 0, 1];
+    let counts: [usize; 20] = [0, 0, 1, 1, 1, 0, 1, 1, 0, 1, 0, 2, 0, 0, 1, 1, 1, 0, 1, 2];
     let place = number as usize;
-    if place < 19 { counts[place] } else { 0 }
+    if place < 20 { counts[place] } else { 0 }
 }
 
 // `refused`, the number, and its values.

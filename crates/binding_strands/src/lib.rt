@@ -16,7 +16,7 @@ fn is_bond(energy: BaseEnergy) -> bool
 }
 
 // Whether a strand's bottom glue binds a glue.
-fn binds(
+pub fn binds(
     strands: usize,
     glues: usize,
     strand_glues: &[u32],

@@ -2,4 +2,6 @@
 mod seeds;
 mod sets_at;
 
+pub use seeds::Seed;
+pub use seeds::seed_at;
 pub use sets_at::constrained_allowed_tiles_at;

@@ -22,7 +22,7 @@ fn after_seed(found: Seed, at: usize, strand: u32, bay: usize) -> Seed
 }
 
 // The last seed on a bay.
-pub(crate) fn seed_at(cols: usize, seeds: &[u32], bay: usize) -> Seed
+pub fn seed_at(cols: usize, seeds: &[u32], bay: usize) -> Seed
     requires { ⌜ (length (now seeds) % 3 ≡ 0) × (cols ≤ 32) ⌝ }
     ensures { λ r. ⌜ r ≡ seedAt cols (now (seeds .entry)) bay ⌝ }
 {

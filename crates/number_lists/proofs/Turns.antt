@@ -1,7 +1,7 @@
 -- Laws of a walk over the words of a content: how counting them and putting their numbers goes on. Assumes nothing.
 use Prim.Native.Nat.{ℕ, suc, _+_, _-_, _≤_, _<_, min}
-use mathlib.Core.Bool.{Bool, true, false, cond, _&&_}
-use mathlib.Core.List.{List, [], _∷_, _++_, map}
+use mathlib.Core.Bool.{Bool, true, false}
+use mathlib.Core.List.{List, [], _∷_, map}
 use mathlib.Core.Path.{_≡_, refl, sym, ap, _∙_}
 use native.Mathlib.Numerals.{add-one}
 use native.Mathlib.Omega.{arith}
@@ -9,13 +9,13 @@ use borrow.Author.Tests.{leb-true, leb-false}
 use lib.Dec.{leb}
 use lib.ListN.{length, take, drop, set, length-map}
 use lib.Seq.{append-snoc, set-split}
-use Rattle.answer_texts.specs.Puts.{written, placeAfter, Put}
+use Rattle.answer_texts.specs.Puts.{written, Put}
 use Rattle.answer_texts.proofs.Putting.{put-nowhere, place-nowhere, Ending, ending-goes-on, ending-ends}
 use Rattle.number_lists.specs.NumberLists.{isPlainNumber, areNumbers, valueOf, words, isList, listIn}
 use Rattle.number_lists.specs.Counts.{wordLength, plainNumber, listCount}
 use Rattle.number_lists.specs.declared.ListCount.{ListCount}
 use Rattle.number_lists.specs.declared.plain.PlainNumber.{PlainNumber}
-use Rattle.number_lists.proofs.Cuts.{end-within, wordsFrom, words-none, words-all, next-word}
+use Rattle.number_lists.proofs.Cuts.{wordsFrom, words-none, words-all, next-word}
 
 -- ---- contents with bytes and without
 

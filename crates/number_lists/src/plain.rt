@@ -1,8 +1,6 @@
 // The words of a content: where one ends, and which number it is.
 ghost use mathlib.Core.Path.{_≡_};
-ghost use Prim.Native.Nat.{_+_, _-_, _^_, _≤_};
-ghost use mathlib.Core.Bool.{true, false, cond};
-ghost use lib.Dec.{ltb};
+ghost use Prim.Native.Nat.{_+_, _-_, _≤_};
 ghost use lib.ListN.{length, take, drop};
 ghost use Rattle.number_lists.specs.Counts.{wordLength, plainNumber, smallNumber};
 use case_numbers::Number;

@@ -1,1 +1,6 @@
 pub mod Examples
+pub mod Grids
+pub mod Reading
+pub mod UniqueReading
+pub mod UniqueWriting
+pub mod Writing

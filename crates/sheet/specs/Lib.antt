@@ -1,2 +1,3 @@
 pub mod Read
 pub mod Write
+pub mod Room

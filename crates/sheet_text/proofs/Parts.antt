@@ -1,7 +1,7 @@
 -- Laws of a sheet's parts: how a field, a record and a sheet go on, and how many bays are left. Assumes nothing.
 use Prim.Native.Nat.{ℕ, zero, suc, _+_, _-_, _*_, _≤_, _<_}
 use mathlib.Core.List.{List, [], _∷_, _++_}
-use mathlib.Core.Path.{_≡_, refl, sym, ap, _∙_}
+use mathlib.Core.Path.{_≡_, refl}
 use native.Mathlib.Numerals.{add-one, sub-one}
 use native.Mathlib.Nat.{suc-mul}
 use native.Mathlib.Omega.{arith}

@@ -1,7 +1,7 @@
 -- `field_length` meets its contract: the invariant is that what is left of the list is still to be added. Assumes nothing.
-use Prim.Native.Nat.{_+_, _-_}
+use Prim.Native.Nat.{_-_}
 use native.Mathlib.Omega.{arith}
-use lib.ListN.{length, getD, drop}
+use lib.ListN.{length, drop}
 use Rattle.sheet_text.specs.Written.{spaced}
 use Rattle.sheet_text.proofs.Parts.{field-end}
 use Rattle.sheet_lengths.proofs.Sums.{Summing, summing-starts, summing-ends, field-goes-on}

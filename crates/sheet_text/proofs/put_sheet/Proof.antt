@@ -5,7 +5,6 @@ use native.Mathlib.Omega.{arith}
 use Rattle.bay_lists.specs.Lists.{constraints}
 use Rattle.sheet_text.proofs.Parts.{row-within}
 use Rattle.sheet_text.proofs.Turns.{has-lists, fewer-lists, Sheet, sheet-starts, sheet-goes-on, sheet-ends}
-use borrow.Author.Needs.{needs}
 use Rattle.sheet_text.proofs.put_sheet.Statement.{statement}
 use Rattle.sheet_text.proofs.put_sheet.Tie as tie
 

@@ -1,0 +1,53 @@
+// Why a bay holds what it holds.
+ghost use mathlib.Core.Path.{_≡_};
+ghost use mathlib.Core.Bool.{true};
+ghost use lib.ListN.{length};
+ghost use Rattle.legal_at.specs.OnGrid.{OnGrid};
+ghost use Rattle.bay_lists.specs.Lists.{constraints, offsetsShaped};
+ghost use Rattle.bay_reasons.specs.Reasons.{listReason, reasonAt};
+use legal_at::Seed;
+use legal_at::seed_at;
+use sdc2d::Sizes;
+
+// A seed lies there; the list names nothing but 0; the list names other strands; or nothing but the bay's glue restricts it.
+pub enum BayReason {
+    Seeded(u32),
+    KeptEmpty,
+    Restricted,
+    Free,
+}
+
+// What the list of an unseeded bay makes of it.
+fn list_reason(list: &[u32]) -> BayReason
+    ensures { λ r. ⌜ r ≡ listReason (now (list .entry)) ⌝ }
+{
+    if list.len() == 0 {
+        return BayReason::Free;
+    }
+    if list_readers::only_zeros(list) {
+        return BayReason::KeptEmpty;
+    }
+    BayReason::Restricted
+}
+
+// The reason of a bay: its seed, else its list.
+pub fn bay_reason(
+    z: Sizes,
+    scaffold: &[u32],
+    seeds: &[u32],
+    constrained: bool,
+    offsets: &[usize],
+    tiles: &[u32],
+    bay: usize,
+) -> BayReason
+    requires { ⌜ OnGrid z (now scaffold) (now seeds) bay ⌝ }
+    requires { ⌜ offsetsShaped (length (now scaffold)) (constraints constrained (now offsets) (now tiles)) ≡ true ⌝ }
+    ensures { λ r. ⌜ r ≡ reasonAt (z .cols) (now (seeds .entry)) (constraints constrained (now (offsets .entry)) (now (tiles .entry))) bay ⌝ }
+{
+    match seed_at(z.cols, seeds, bay) {
+        Seed::Seeded(strand) => BayReason::Seeded(strand),
+        Seed::Unseeded => {
+            list_reason(list_readers::bay_list(scaffold.len(), constrained, offsets, tiles, bay))
+        }
+    }
+}

@@ -1,0 +1,5 @@
+pub mod Choosing
+pub mod Examples
+pub mod ListsAfter
+pub mod RoomAfter
+pub mod SetsAfter

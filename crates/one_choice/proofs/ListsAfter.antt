@@ -1,0 +1,75 @@
+-- What the constraints after a choice are: the strand alone at the chosen bay, every other list as it was, and offsets of the right shape.
+-- Assumes nothing.
+use Prim.Native.Nat.{ℕ, zero, suc, _+_, _-_, _≤_, _<_}
+use mathlib.Core.Path.{_≡_, refl, _∙_, ap}
+use mathlib.Core.Bool.{Bool, true, cond}
+use mathlib.Core.List.{List, [], _∷_}
+use native.Mathlib.Nat.{zero-add, le-refl}
+use native.Mathlib.Omega.{arith}
+use lib.ListN.{length, getD, length-append}
+use borrow.Author.Tests.{eq-eqb, ne-eqb, le-leb}
+use Rattle.entries.specs.Entries.{offsetsFrom}
+use Rattle.bay_lists.specs.Lists.{Constraints, constraints, listOf, offsetsShaped}
+use Rattle.sheet_cells.specs.Cells.{allTiles, starts}
+use Rattle.sheet_grammar.proofs.Offsets.{length-starts, list-of-starts}
+use Rattle.one_choice.specs.Choice.{listAfter, listsAfter, choice}
+
+-- ---- the places at which lists begin have the shape of offsets
+
+first-start : (n : ℕ) (ls : List (List ℕ)) → getD (starts n ls) 0 0 ≡ n
+unfolding starts
+first-start n [] = refl
+first-start n (l ∷ ls) = refl
+
+last-start : (n : ℕ) (ls : List (List ℕ)) → getD (starts n ls) (length ls) 0 ≡ n + length (allTiles ls)
+unfolding starts allTiles
+last-start n [] = omega arith
+last-start n (l ∷ ls) = let more = last-start (n + length l) ls in let sum = length-append l (allTiles ls) in omega arith
+
+starts-fit : (end last n : ℕ) (ls : List (List ℕ)) → last ≤ n → n + length (allTiles ls) ≤ end → offsetsFrom end last (starts n ls) ≡ true
+unfolding starts allTiles offsetsFrom
+starts-fit end last n [] h k = rw (le-leb last n h, le-leb n end (omega arith))
+starts-fit end last n (l ∷ ls) h k =
+    let sum = length-append l (allTiles ls) in
+    let fits : n ≤ end = omega arith in
+    rw (le-leb last n h, le-leb n end fits) (starts-fit end n (n + length l) ls (omega arith) (omega arith))
+
+pub starts-shaped : (ls : List (List ℕ)) → offsetsShaped (length ls) (constraints true (starts 0 ls) (allTiles ls)) ≡ true
+starts-shaped ls =
+    rw (
+      eq-eqb (length (starts 0 ls)) (length ls + 1) (length-starts 0 ls),
+      eq-eqb (getD (starts 0 ls) 0 0) 0 (first-start 0 ls),
+      starts-fit (length (allTiles ls)) 0 0 ls (le-refl 0) (omega arith),
+      eq-eqb (getD (starts 0 ls) (length ls) 0) (length (allTiles ls)) (last-start 0 ls ∙ zero-add (length (allTiles ls))),
+    )
+
+-- ---- the lists after a choice
+
+module _ (c : Constraints) (chosen strand : ℕ) where
+  how-many : (bay count : ℕ) → length (listsAfter c chosen strand bay count) ≡ count
+  unfolding listsAfter
+  how-many bay zero = refl
+  how-many bay (suc k) = ap suc (how-many (bay + 1) k)
+
+  list-at : (bay count i : ℕ) → i < count → getD (listsAfter c chosen strand bay count) i [] ≡ listAfter c chosen strand (bay + i)
+  unfolding listsAfter
+  list-at bay zero i h = absurd (omega arith)
+  list-at bay (suc k) zero h = ap (listAfter c chosen strand) (omega arith)
+  list-at bay (suc k) (suc i) h = let same : bay + 1 + i ≡ bay + suc i = omega arith in list-at (bay + 1) k i (omega arith) ∙ ap (listAfter c chosen strand) same
+
+  module _ (bays : ℕ) where
+    -- the offsets are in order, as the calls ask
+    pub shaped-after : offsetsShaped bays (choice c bays chosen strand) ≡ true
+    shaped-after = rw (how-many 0 bays) at (starts-shaped (listsAfter c chosen strand 0 bays))
+
+    list-after : (bay : ℕ) → bay < bays → listOf (choice c bays chosen strand) bay ≡ listAfter c chosen strand bay
+    list-after bay h =
+        let n = how-many 0 bays in
+        list-of-starts (listsAfter c chosen strand 0 bays) bay (omega arith) ∙ list-at 0 bays bay h ∙ ap (listAfter c chosen strand) (zero-add bay)
+
+    -- the chosen bay has the strand alone in its list, and every other bay the list that it had
+    pub strand-alone : chosen < bays → listOf (choice c bays chosen strand) chosen ≡ strand ∷ []
+    strand-alone h = list-after chosen h ∙ ap (λ (b : Bool). cond b (strand ∷ []) (listOf c chosen)) (eq-eqb chosen chosen refl)
+
+    pub others-as-they-were : (bay : ℕ) → bay < bays → (bay ≡ chosen → ⊥) → listOf (choice c bays chosen strand) bay ≡ listOf c bay
+    others-as-they-were bay h n = list-after bay h ∙ ap (λ (b : Bool). cond b (strand ∷ []) (listOf c bay)) (ne-eqb bay chosen n)

@@ -1,0 +1,40 @@
+-- `sheet_files::put_path` meets its contract: three texts put one after the other are one. Assumes nothing.
+use mathlib.Core.List.{[], _∷_, append-assoc}
+use Rattle.answer_texts.proofs.Putting.{put-as, then-put}
+use borrow.Author.Needs.{needs}
+use Rattle.sheet_files.proofs.put_path.Statement.{statement}
+use Rattle.sheet_files.proofs.put_path.Tie as tie
+
+put-text-requires : tie.Need-put-text-requires
+put-text-requires c κs = search needs
+
+slice-aggregate-put-text : tie.Need-slice-aggregate-put-text
+slice-aggregate-put-text c = search needs
+
+put-text-requires-2 : tie.Need-put-text-requires-2
+put-text-requires-2 c κs = search needs
+
+put-text-requires-3 : tie.Need-put-text-requires-3
+put-text-requires-3 c κs = search needs
+
+same-length : tie.Need-same-length
+same-length c = search needs
+
+returns : tie.Need-returns
+returns c =
+    let third = c .before .before in
+    let second = c .before .before .before .before .before .before in
+    let first = c .before .before .before .before .before .before .before .before .before .before .before in
+    let a = c .before .before .before .before .before .before .before .before .before .before .before .before .before .before .before .before .args in
+    put-as (append-assoc (a .folder .now) (47 ∷ []) (a .name .now)) (then-put (then-put (first .put-text .ensures) (second .put-text2 .ensures)) (third .put-text3 .ensures))
+
+pub put-path-spec : {M : Type 1} → statement M
+put-path-spec =
+    tie.close
+    (tie.spec
+    put-text-requires
+    slice-aggregate-put-text
+    put-text-requires-2
+    put-text-requires-3
+    same-length
+    returns)
