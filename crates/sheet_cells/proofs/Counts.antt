@@ -7,7 +7,7 @@ use native.Mathlib.Nat.{zero-add, suc-add}
 use native.Mathlib.Omega.{arith}
 use lib.ListN.{length, length-append}
 use Rattle.case_numbers.proofs.Worth.{and-left, and-right}
-use Rattle.sheet_fields.specs.Fields.{field, content, after}
+use Rattle.sheet_fields.specs.Fields.{content, after}
 use Rattle.sheet_fields.specs.Runs.{past, bytesIn}
 use Rattle.number_lists.specs.NumberLists.{listIn}
 use Rattle.sheet_cells.specs.Cells.{isCell, cells, allTiles}

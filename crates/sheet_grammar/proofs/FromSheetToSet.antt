@@ -19,7 +19,7 @@ use Rattle.legal_at.specs.Legal.{seedAt, isLegal, setAt}
 use Rattle.legal_at.proofs.ChemistsQuestion.{keep-it-empty, no-restriction}
 use Rattle.legal.specs.Sets.{bays, setsOf, shapeVerdict, emptyVerdict, allowedVerdict, setsAfter}
 use Rattle.legal.proofs.Seven.{set-of-bay}
-use Rattle.sheet_fields.specs.Fields.{content, after}
+use Rattle.sheet_fields.specs.Fields.{after}
 use Rattle.number_lists.specs.NumberLists.{isList, listIn}
 use Rattle.sheet_fields.specs.Runs.{contents}
 use Rattle.sheet_cells.specs.Cells.{cells, allTiles, starts, front}

@@ -15,7 +15,6 @@ use Rattle.answer_texts.specs.Puts.{numberText}
 use Rattle.bay_lists.specs.Lists.{Constraints, constraints, listOf, offsetsShaped}
 use Rattle.entries.specs.Entries.{part}
 use Rattle.entries.proofs.Same.{both}
-use Rattle.sheet_fields.specs.Runs.{contents}
 use Rattle.sheet_cells.specs.Cells.{place, sheetFault, allTiles, starts, front}
 use Rattle.sheet_text.specs.Written.{gap, spaced, separator, rowText, sheetText}
 use Rattle.sheet.specs.Read.{isSide, gridVerdict, sheetLists, tileCount, readVerdict, offsetsAfter, tilesAfter}

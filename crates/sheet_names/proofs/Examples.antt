@@ -1,5 +1,5 @@
 -- The definitions at small entries, computed. Assumes nothing.
-use mathlib.Core.List.{[], _∷_, map, flatten}
+use mathlib.Core.List.{[], _∷_, map}
 use mathlib.Core.Path.{_≡_, refl}
 use lib.Seq.{sets}
 use Rattle.sheet_names.specs.Appended.{flagOf, ends}

@@ -2,11 +2,11 @@
 use Prim.Native.Nat.{ℕ, zero, suc, _+_, _-_, _*_, _≤_, _<_}
 use mathlib.Core.List.{List, [], _∷_, _++_, append-assoc, append-nil}
 use mathlib.Core.Path.{_≡_, refl, sym, ap, _∙_}
-use native.Mathlib.Nat.{add-zero, add-comm, zero-mul, suc-mul, mul-le-mul-right}
+use native.Mathlib.Nat.{add-comm, zero-mul, suc-mul, mul-le-mul-right}
 use native.Mathlib.Numerals.{add-one}
 use native.Mathlib.Omega.{arith}
 use lib.ListN.{length, take, drop, length-append, length-drop}
-use Rattle.sheet_fields.specs.Fields.{raw, content, after, unquoted, fieldAt}
+use Rattle.sheet_fields.specs.Fields.{content, after, unquoted, fieldAt}
 use Rattle.sheet_fields.specs.declared.Field.{Field}
 use Rattle.sheet_fields.specs.Runs.{contents, past, bytesIn}
 use Rattle.sheet_fields.proofs.Bounds.{raw-at}
@@ -15,7 +15,7 @@ use Rattle.sheet_fields.proofs.Runs.{bytes-within, past-at, past-add, contents-
 use Rattle.sheet_records.specs.Tables.{columns}
 use Rattle.sheet_names.specs.Appended.{Appended}
 use Rattle.sheet_names.specs.declared.Entries.{Entries}
-use Rattle.sheet_names.proofs.Appending.{append-none, append-as, then-append, appended-out, appended-offsets, appended-present, appended-within}
+use Rattle.sheet_names.proofs.Appending.{append-none, append-as, then-append}
 
 -- what the bytes between a field's places stand for is its content
 pub content-at : (text : List ℕ) (at : ℕ) (f : Field) → f ≡ fieldAt text at → unquoted (take (f .to - f .from) (drop (f .from) text)) ≡ content (drop at text)

@@ -1,4 +1,5 @@
 pub mod Appending
 mod Examples
 pub mod Filling
+pub mod ReadBack
 pub mod Unquoting

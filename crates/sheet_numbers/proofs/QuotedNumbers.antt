@@ -1,6 +1,6 @@
 -- A quote is no part of a number: what a field's content is read as is read off its bytes as they stand. Assumes nothing.
 use Prim.Native.Nat.{ℕ, suc, _+_, _-_, _^_}
-use mathlib.Core.Bool.{Bool, true, false, cond, not, _&&_, _||_, true≢false}
+use mathlib.Core.Bool.{Bool, true, false, cond, _&&_, _||_, true≢false}
 use mathlib.Core.List.{List, [], _∷_, _++_}
 use mathlib.Core.Path.{_≡_, refl, sym, ap, _∙_}
 use native.Mathlib.Omega.{arith}
@@ -15,7 +15,7 @@ use Rattle.decimals.specs.Decimals.{wholeLength, places, wholePart, isFormed, a
 use Rattle.number_lists.specs.NumberLists.{isPlainNumber, valueOf}
 use Rattle.number_lists.specs.Counts.{plainNumber}
 use Rattle.number_lists.specs.declared.plain.PlainNumber.{PlainNumber}
-use Rattle.sheet_fields.specs.Fields.{raw, content, fieldAt}
+use Rattle.sheet_fields.specs.Fields.{content, fieldAt}
 use Rattle.sheet_fields.specs.declared.Field.{Field}
 use Rattle.sheet_fields.proofs.Bounds.{raw-at}
 use Rattle.sheet_fields.proofs.Quotes.{hasQuote, read-content}

@@ -1,17 +1,17 @@
 -- Laws of a walk down a column: the turns of the loop that reads a field of each record, whatever it is read as. Assumes nothing.
 use Prim.Native.Nat.{ℕ, suc, _+_, _-_, _≤_, _<_}
 use mathlib.Core.Bool.{Bool, true, false, cond}
-use mathlib.Core.List.{List, [], _∷_, map}
-use mathlib.Core.Path.{_≡_, refl, sym, ap, _∙_}
+use mathlib.Core.List.{List, _∷_, map}
+use mathlib.Core.Path.{_≡_, refl, ap, _∙_}
 use native.Mathlib.Nat.{sub-zero}
 use native.Mathlib.Numerals.{add-one}
 use native.Mathlib.Omega.{arith}
-use borrow.Author.Tests.{eq-eqb, ne-eqb, eqb-true}
+use borrow.Author.Tests.{ne-eqb, eqb-true}
 use lib.Dec.{eqb}
 use lib.ListN.{length, drop, set, length-set, length-drop}
 use lib.Seq.{sets}
 use Rattle.sheet_fields.specs.Fields.{content}
-use Rattle.sheet_fields.specs.Runs.{contents, past, bytesIn}
+use Rattle.sheet_fields.specs.Runs.{contents, bytesIn}
 use Rattle.sheet_fields.proofs.Runs.{bytes-within, past-at}
 use Rattle.sheet_records.specs.Tables.{columns}
 use Rattle.sheet_numbers.specs.Faults.{firstFault}

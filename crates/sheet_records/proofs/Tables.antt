@@ -5,7 +5,7 @@ use mathlib.Core.List.{List}
 use mathlib.Core.Path.{_≡_, refl, sym, ap, _∙_}
 use native.Mathlib.Nat.{sub-zero}
 use native.Mathlib.Omega.{arith}
-use borrow.Author.Tests.{eq-eqb, ne-eqb, eqb-true}
+use borrow.Author.Tests.{eq-eqb, ne-eqb}
 use lib.Dec.{eqb}
 use lib.ListN.{length, drop, length-drop}
 use Rattle.sheet_fields.specs.Runs.{past, bytesIn}
@@ -70,3 +70,24 @@ module _ (width most : ℕ) (text : List ℕ) (next records : ℕ) (s : InTable 
               let z : _≡_ {A = Bool} true false = sym (eq-eqb (recordFault 1 width here) 0 (sym same ∙ none)) ∙ k in
               let y : _≡_ {A = ℕ} 0 1 = cc in
               absurd (omega arith)
+
+-- ---- how many records are found
+
+found-few : (width records left : ℕ) (t : List ℕ) → tableFrom width records left t .records ≤ records + left
+unfolding tableFrom
+found-few width records zero t = go (eqb (length t) 0)
+  where
+    go : (q : Bool) → cond q (sound records) (faulty (records + 1) 1) .records ≤ records + 0
+    go true = omega arith
+    go false = omega arith
+found-few width records (suc left) t = go (eqb (length t) 0) (eqb (recordFault 1 width t) 0) (found-few width (records + 1) left (past width t))
+  where
+    go : (p q : Bool) → tableFrom width (records + 1) left (past width t) .records ≤ records + 1 + left
+        → cond p (sound records) (cond q (tableFrom width (records + 1) left (past width t)) (faulty (records + 1) (recordFault 1 width t))) .records ≤ records + suc left
+    go true q h = omega arith
+    go false true h = omega arith
+    go false false h = omega arith
+
+-- no more than are allowed
+pub records-few : (width most : ℕ) (t : List ℕ) → tableCheck width most t .records ≤ most
+records-few width most t = let h = found-few width 0 most t in omega arith

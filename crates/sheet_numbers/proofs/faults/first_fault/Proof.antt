@@ -1,6 +1,5 @@
 -- `faults::first_fault` meets its contract: each way is a case of the definition. Assumes nothing.
 use borrow.Author.Tests.{eq-eqb, ne-eqb}
-use borrow.Author.Needs.{needs}
 use Rattle.sheet_numbers.proofs.faults.first_fault.Statement.{statement}
 use Rattle.sheet_numbers.proofs.faults.first_fault.Tie as tie
 
