@@ -71,13 +71,13 @@ pub fn row(
     requires { ⌜ (own .strand < 64) × (q < width) × (width ≤ 1048576) × (0 < length (strandsOf leaving)) ⌝ }
     ensures { λ r. ⌜ r ≡ ownRow own (now (major .entry)) (now (before .entry)) leaving width q ⌝ }
 {
-    let mut s = sets::next(leaving, 0);
-    let mut choice = candidate(before, q, major, own, s as usize);
-    s = sets::next(leaving, s + 1);
+    let mut choice = candidate(before, q, major, own, sets::first(leaving) as usize);
+    let mut left = sets::rest(leaving);
     let mut i = q + width;
-    while s < 64 {
-        choice = ledger_rows::lower(choice, candidate(before, i, major, own, s as usize));
-        s = sets::next(leaving, s + 1);
+    while !sets::is_empty(left) {
+        let s = sets::first(left) as usize;
+        choice = ledger_rows::lower(choice, candidate(before, i, major, own, s));
+        left = sets::rest(left);
         i += width;
     }
     choice

@@ -1,19 +1,19 @@
 -- `bay_block::put_line` meets its contract. The invariant: the rows of the strands below t are written. Assumes nothing.
 use mathlib.Core.Path.{_≡_, sym, ap, ap₂, _∙_, subst}
 use mathlib.Core.List.{List}
-use Prim.Native.Nat.{ℕ, _-_, _<_}
+use Prim.Native.Nat.{ℕ, _+_, _-_, _<_}
 use native.Mathlib.Omega.{arith}
 use lib.Ieee.{Float}
 use lib.ListN.{length, getD}
 use denote.Ref.{now}
 use borrow.Author.Needs.{needs, scaled-fits}
 use Rattle.floats.specs.declared.Choice.{Choice}
-use Rattle.sets.specs.Set.{has, members}
+use Rattle.sets.specs.Set.{has, members, nextOf}
+use Rattle.sets.proofs.NextMember.{next-from}
 use Rattle.ledger_rows.specs.Blocks.{tab}
 use Rattle.row_choice.specs.declared.Own.{Own}
 use Rattle.row_choice.specs.Row.{strandsOf, ownRow}
 use Rattle.bay_block.specs.Block.{part, ownOf}
-use Rattle.row_choice.proofs.Leaving.{next-further}
 use Rattle.bay_block.proofs.Lining.{Lining, who-small, line-starts, line-strand, line-turns, line-ends, energies-long, notes-long, energies-room, notes-room}
 use Rattle.bay_block.proofs.Over.{part-over}
 use Rattle.bay_block.proofs.put_line.Statement.{statement}
@@ -117,6 +117,9 @@ best-is c =
     c .row .ensures
     ∙ ap₂ (λ (o : Own) (b : List Float). ownRow o (now (a .major)) b (a .bay .leaving) (a .bay .width) (a .q))
     (c .before .before .before .own-of .ensures ∙ ap (ownOf (a .bay) (now (a .here)) (now (a .side)) (a .u)) strand) before
+
+next-further : (set s u : ℕ) → s < 64 → u ≡ nextOf (has set) (s + 1) 64 → s < u
+next-further set s u h e = omega (arith, e, next-from (has set) (s + 1) 64 (omega arith))
 
 cast-notes : tie.Need-cast-notes Inv-loop μ-loop
 cast-notes c =
