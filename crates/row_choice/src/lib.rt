@@ -23,12 +23,13 @@ fn held(before: &[f64], i: usize) -> f64
     if i < before.len() { before[i] } else { 0.0 }
 }
 
-// The bond of strand s with strand t, which comes after it.
+// The bond of strand s with strand t, which comes after it. Those of one t stand side by side,
+// since a row goes over s.
 pub fn bond_at(table: &[f64; 4096], s: usize, t: usize) -> f64
     requires { ⌜ (s < 64) × (t < 64) ⌝ }
     ensures { λ r. ⌜ r ≡ bondAt (now (table .entry)) s t ⌝ }
 {
-    table[s * 64 + t]
+    table[t * 64 + s]
 }
 
 // The bond added where the neighbour is there.
