@@ -4,7 +4,7 @@
 use mathlib.Core.Path.{_≡_, refl, sym, ap, ap₂, _∙_}
 use mathlib.Core.Bool.{Bool, true, false, _&&_, and-false, and-true}
 use mathlib.Core.List.{List, [], _∷_, _++_, map}
-use Prim.Native.Nat.{ℕ, zero, suc, _+_, _-_, _*_, _/_, _^_, _≤_, _<_, zero-le}
+use Prim.Native.Nat.{ℕ, suc, _+_, _-_, _*_, _/_, _^_, _≤_, _<_, zero-le}
 use native.Mathlib.Nat.{le-refl}
 use native.Mathlib.Numerals.{add-one}
 use native.Mathlib.Decide.{decLt, ℕ-discrete}
@@ -17,10 +17,10 @@ use lib.Pow.{pow-pos, pow-lt, split}
 use borrow.Author.Tests.{eqb-true, eqb-false, eq-eqb, ne-eqb, lt-ltb, le-ltb}
 use Rattle.sets.specs.Set.{has, digit, word, members, nextOf, restOf}
 use Rattle.sets.proofs.Bits.{has-high, has-low, has-beyond, same-bits}
-use Rattle.sets.proofs.Members.{members-none, members-same, members-skip, members-more, members-add, length-less, member, past}
+use Rattle.sets.proofs.Members.{members-none, members-same, members-skip, members-more, members-add, length-less, member}
 use Rattle.sets.proofs.NextMember.{Next, next, is-false}
 use Rattle.sets.proofs.Operations.{word-none, has-and}
-use Rattle.sets.proofs.Walk.{start, begin}
+use Rattle.sets.proofs.Walk.{start}
 use Rattle.sets.proofs.Words.{word-lt, word-same, word-mod, word-has, has-word, members-word, members-beyond}
 
 -- ---- in members
@@ -45,8 +45,8 @@ module _ (legal : ℕ → Bool) (n : ℕ) where
       go t e below =
           let m = n - (t + 1) in
           let all : n ≡ t + 1 + m = omega arith in
-          let b = begin legal n t e in
-          let upto : members legal (t + 1) ≡ t ∷ [] = members-more legal t (b .0 .is-legal below) ∙ ap (λ (l : List ℕ). l ++ (t ∷ [])) (b .1) in
+          let f : Next legal 0 n t = rw e (next legal 0 n) in
+          let upto : members legal (t + 1) ≡ t ∷ [] = members-more legal t (f .lands below .1) ∙ ap (λ (l : List ℕ). l ++ (t ∷ [])) (members-skip legal 0 t zero-le (f .skips) ∙ members-none legal) in
           let none : members (restOf legal n) (t + 1) ≡ [] = members-skip (restOf legal n) 0 (t + 1) zero-le (λ s a l. not-behind t s e l) ∙ members-none (restOf legal n) in
           let same : members (λ (s : ℕ). legal (t + 1 + s)) m ≡ members (λ (s : ℕ). restOf legal n (t + 1 + s)) m =
           members-same (λ (s : ℕ). legal (t + 1 + s)) (λ (s : ℕ). restOf legal n (t + 1 + s)) m (λ s l. sym (behind t (t + 1 + s) e (omega arith))) in
