@@ -52,14 +52,15 @@ fn put_line(
     ensures { λ _. ⌜ now (energies .exit) ≡ over (now (energies .entry)) at (bayLine (λ c. c .energy) bay (now (here .entry)) (now (major .entry)) (now (side .entry)) (part from end (now (energies .entry))) q u) ⌝ }
     ensures { λ _. ⌜ now (notes .exit) ≡ over (now (notes .entry)) at (bayLine (λ c. c .who) bay (now (here .entry)) (now (major .entry)) (now (side .entry)) (part from end (now (energies .entry))) q u) ⌝ }
 {
-    let mut t = sets::next(bay.set, 0);
+    let mut left = bay.set;
     let mut j = at;
-    while t < 64 {
-        let own = own_of(bay, here, side, u, t as usize);
+    while !sets::is_empty(left) {
+        let t = sets::first(left) as usize;
+        let own = own_of(bay, here, side, u, t);
         let best = row(&energies[from..end], q, bay.width, bay.leaving, major, own);
         energies[j] = best.energy;
         notes[j] = best.who as u8;
-        t = sets::next(bay.set, t + 1);
+        left = sets::rest(left);
         j += 1;
     }
 }

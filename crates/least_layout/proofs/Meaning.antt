@@ -74,11 +74,11 @@ module _ (s : System) (c : Constraints) where
   pair-is : (northSouth : Bool) (a t : ℕ) → s .sizes .strands ≤ 64 → a < s .sizes .strands → t < s .sizes .strands
       → bondAt (bondTable (s .sizes) (s .strandGlues) (s .deltaG) (s .entropy) northSouth) a t ≡ edgeEnergy (s .sizes) (s .strandGlues) (s .deltaG) (s .entropy) northSouth a t
   pair-is northSouth a t few h k =
-      let f : ℕ → Float = λ i. pairEnergy (s .sizes) (s .strandGlues) (s .deltaG) (s .entropy) northSouth (i / 64) (i % 64) in
-      let small : t < 64 = lt-of-lt-of-le k few in
-      let inside : a * 64 + t < 4096 = omega (arith, small, lt-of-lt-of-le h few) in
-      tab-at f 4096 (a * 64 + t) nan inside
-      ∙ ap₂ (pairEnergy (s .sizes) (s .strandGlues) (s .deltaG) (s .entropy) northSouth) (digits-div a small) (digits-mod a small)
+      let f : ℕ → Float = λ i. pairEnergy (s .sizes) (s .strandGlues) (s .deltaG) (s .entropy) northSouth (i % 64) (i / 64) in
+      let small : a < 64 = lt-of-lt-of-le h few in
+      let inside : t * 64 + a < 4096 = omega (arith, small, lt-of-lt-of-le k few) in
+      tab-at f 4096 (t * 64 + a) nan inside
+      ∙ ap₂ (pairEnergy (s .sizes) (s .strandGlues) (s .deltaG) (s .entropy) northSouth) (digits-mod t small) (digits-div t small)
       ∙ ap₂ (λ (p q : Bool). cond (p && q) (edgeEnergy (s .sizes) (s .strandGlues) (s .deltaG) (s .entropy) northSouth a t) nothing) (lt-ltb a (s .sizes .strands) h) (lt-ltb t (s .sizes .strands) k)
 
   site-is : (k t : ℕ) → k < bays (s .sizes) → s .sizes .strands ≤ 64 → t < s .sizes .strands

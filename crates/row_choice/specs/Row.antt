@@ -13,9 +13,9 @@ use Rattle.row_choice.specs.declared.Own.{Own}
 abbrev pub strandsOf : (set : ℕ) → List ℕ
 strandsOf set = members (has set) 64
 
--- the bond of strand s with strand t, which comes after it
+-- the bond of strand s with strand t, which comes after it: those of one t stand side by side
 abbrev pub bondAt : (table : List Float) → (s t : ℕ) → Float
-bondAt table s t = getD table (s * 64 + t) nan
+bondAt table s t = getD table (t * 64 + s) nan
 
 -- where a neighbour is there, its bond is added
 abbrev pub withBond : (there : Bool) → (bond x : Float) → Float

@@ -23,12 +23,13 @@ fn held(before: &[f64], i: usize) -> f64
     if i < before.len() { before[i] } else { 0.0 }
 }
 
-// The bond of strand s with strand t, which comes after it.
+// The bond of strand s with strand t, which comes after it. Those of one t stand side by side,
+// since a row goes over s.
 pub fn bond_at(table: &[f64; 4096], s: usize, t: usize) -> f64
     requires { ⌜ (s < 64) × (t < 64) ⌝ }
     ensures { λ r. ⌜ r ≡ bondAt (now (table .entry)) s t ⌝ }
 {
-    table[s * 64 + t]
+    table[t * 64 + s]
 }
 
 // The bond added where the neighbour is there.
@@ -71,13 +72,13 @@ pub fn row(
     requires { ⌜ (own .strand < 64) × (q < width) × (width ≤ 1048576) × (0 < length (strandsOf leaving)) ⌝ }
     ensures { λ r. ⌜ r ≡ ownRow own (now (major .entry)) (now (before .entry)) leaving width q ⌝ }
 {
-    let mut s = sets::next(leaving, 0);
-    let mut choice = candidate(before, q, major, own, s as usize);
-    s = sets::next(leaving, s + 1);
+    let mut choice = candidate(before, q, major, own, sets::first(leaving) as usize);
+    let mut left = sets::rest(leaving);
     let mut i = q + width;
-    while s < 64 {
-        choice = ledger_rows::lower(choice, candidate(before, i, major, own, s as usize));
-        s = sets::next(leaving, s + 1);
+    while !sets::is_empty(left) {
+        let s = sets::first(left) as usize;
+        choice = ledger_rows::lower(choice, candidate(before, i, major, own, s));
+        left = sets::rest(left);
         i += width;
     }
     choice

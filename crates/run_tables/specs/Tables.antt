@@ -18,9 +18,9 @@ abbrev pub pairEnergy : Sizes → (strandGlues : List ℕ) → (deltaG entropy :
 pairEnergy z strandGlues deltaG entropy northSouth s t =
     cond (ltb s (z .strands) && ltb t (z .strands)) (edgeEnergy z strandGlues deltaG entropy northSouth s t) nothing
 
--- of all pairs: s and t at place s · 64 + t
+-- of all pairs: s and t, which comes after it, at place t · 64 + s
 abbrev pub bondTable : Sizes → (strandGlues : List ℕ) → (deltaG entropy : List Float) → (northSouth : Bool) → List Float
-bondTable z strandGlues deltaG entropy northSouth = tab (λ i. pairEnergy z strandGlues deltaG entropy northSouth (i / 64) (i % 64)) 4096
+bondTable z strandGlues deltaG entropy northSouth = tab (λ i. pairEnergy z strandGlues deltaG entropy northSouth (i % 64) (i / 64)) 4096
 
 -- the energy of a bay with a number below 64
 abbrev pub siteEnergy : Sizes → (strandGlues scaffold : List ℕ) → (deltaG entropy logs : List Float) → (bay t : ℕ) → Float

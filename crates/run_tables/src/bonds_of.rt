@@ -27,7 +27,7 @@ fn pair_energy(
     0.0
 }
 
-// Writes the bonds of all pairs, s and t at place s · 64 + t.
+// Writes the bonds of all pairs, s and t at place t · 64 + s.
 pub fn fill_bonds(
     z: Sizes,
     strand_glues: &[u32],
@@ -48,8 +48,8 @@ pub fn fill_bonds(
             delta_g,
             entropy,
             north_south,
-            i / 64,
             i % 64,
+            i / 64,
         );
         i += 1;
     }

@@ -4,6 +4,7 @@ pub mod Build
 pub mod Members
 pub mod NextMember
 pub mod Operations
+pub mod Taking
 pub mod Several
 pub mod Walk
 pub mod Words

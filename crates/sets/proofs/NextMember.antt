@@ -16,7 +16,8 @@ pub record Next (legal : ℕ → Bool) (t n r : ℕ) : Type 0 where
   pub skips : (s : ℕ) → t ≤ s → s < r → legal s ≡ false
   pub lands : r < n → (t ≤ r) × (legal r ≡ true)
 
-is-false : (b : Bool) → (b ≡ true → ⊥) → b ≡ false
+-- an answer that cannot be yes is no
+pub is-false : (b : Bool) → (b ≡ true → ⊥) → b ≡ false
 is-false true h = absurd (h refl)
 is-false false h = refl
 

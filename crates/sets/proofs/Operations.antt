@@ -134,6 +134,9 @@ trailing-first (suc n) w = go (w % 2) refl (trailing-first n (w / 2))
           lands = λ l. (zero-le, has-zero w ∙ eq-eqb (w % 2) 1 (omega (arith, mod-lt w two-pos)));
         }
 
+pub trailing-all : (n w : ℕ) → trailingZeros n w ≡ nextOf (has w) 0 n
+trailing-all n w = next-is (has w) 0 n (trailingZeros n w) (trailing-first n w)
+
 -- with the t lowest bits cleared they lead to the first strand at or after t
 pub trailing-next : (n w t : ℕ) → trailingZeros n (w / 2 ^ t * 2 ^ t) ≡ nextOf (has w) t n
 trailing-next n w t = next-is (has w) t n r (record { within = first .within; skips = skips; lands = lands })

@@ -1,8 +1,8 @@
 -- The walk by rising number, `let mut t = next(set, 0); while t < n { ..; t = next(set, t + 1); }`: it visits exactly the members, and what a turn of such a loop knows,
--- over plain variables. `Counted` with `start`, `turn` and `finish` is for a loop that counts its turns, `Standing` with `begin`, `step` and `done` for one that does not.
+-- over plain variables: `Counted` with `start`, `turn` and `finish`. A walk that takes strands away instead is in `Taking`.
 -- Assumes nothing.
 use mathlib.Core.Path.{_≡_, refl, sym, ap, _∙_}
-use mathlib.Core.Bool.{Bool, true, cond}
+use mathlib.Core.Bool.{Bool, cond}
 use mathlib.Core.List.{List, [], _∷_, _++_}
 use Prim.Native.Nat.{ℕ, zero, suc, _+_, _≤_, _<_}
 use native.Mathlib.Numerals.{add-one}
@@ -13,8 +13,7 @@ use lib.Seq.{take-suc, drop-cons, take-at}
 use borrow.Author.Tests.{lt-ltb, le-ltb}
 use Rattle.sets.specs.Set.{members, nextOf}
 use Rattle.sets.specs.Walk.{walk}
-use Rattle.sets.proofs.Members.{Member, members-none, members-more, members-first, length-le, length-more, member, past}
-use Rattle.sets.proofs.NextMember.{Next, next, next-from, members-next}
+use Rattle.sets.proofs.Members.{Member, members-none, members-first, length-le, length-more, member, past}
 
 -- A walk that counts its turns has made p of them: its strand t is the member at position p, or the limit n behind the last.
 pub record Counted (legal : ℕ → Bool) (n p t : ℕ) : Type 0 where
@@ -29,17 +28,6 @@ pub record Turn (legal : ℕ → Bool) (n p t : ℕ) : Type 0 where
   pub visited : take p (members legal n) ≡ members legal t
   pub added : take (p + 1) (members legal n) ≡ members legal t ++ (t ∷ [])
   pub goes-on : (u : ℕ) → u ≡ nextOf legal (t + 1) n → Counted legal n (p + 1) u
-
--- A walk stands at t: at a member, or at the limit n. What it has visited are the members below t.
-pub record Standing (legal : ℕ → Bool) (n t : ℕ) : Type 0 where
-  pub within : t ≤ n
-  pub is-legal : t < n → legal t ≡ true
-
--- What is known when a walk goes on from t to u: it stands at u, and t is the one member that is added to those visited.
-pub record Step (legal : ℕ → Bool) (n t u : ℕ) : Type 0 where
-  pub stands : Standing legal n u
-  pub further : t < u
-  pub added : members legal u ≡ members legal t ++ (t ∷ [])
 
 module _ (legal : ℕ → Bool) (n : ℕ) where
   -- behind the member at position p comes the one at p + 1
@@ -77,26 +65,6 @@ module _ (legal : ℕ → Bool) (n : ℕ) where
   pub finish : (p t : ℕ) → Counted legal n p t → n ≤ t → p ≡ length (members legal n)
   finish p t c l =
       elim (decLt p (length (members legal n))) [ yes b ↦ absurd (omega (arith, c .here, member legal n p n b .below)) | no g ↦ omega (arith, c .counted) ]
-
-  -- a walk begins at the first member, and has visited none
-  pub begin : (t : ℕ) → t ≡ nextOf legal 0 n → Standing legal n t × (members legal t ≡ [])
-  begin t e =
-      let a : Next legal 0 n t = rw e (next legal 0 n) in
-      (record { within = a .within; is-legal = λ b. a .lands b .1 }, ap (members legal) e ∙ members-next legal 0 n (omega arith) ∙ members-none legal)
-
-  -- it goes on to the next member
-  pub step : (t u : ℕ) → Standing legal n t → t < n → u ≡ nextOf legal (t + 1) n → Step legal n t u
-  step t u s l e =
-      let a : Next legal (t + 1) n u = rw e (next legal (t + 1) n) in
-      record {
-        stands = record { within = a .within; is-legal = λ b. a .lands b .1 };
-        further = omega (arith, e, next-from legal (t + 1) n (omega arith));
-        added = ap (members legal) e ∙ members-next legal (t + 1) n (omega arith) ∙ members-more legal t (s .is-legal l);
-      }
-
-  -- it ends where it has visited them all
-  pub done : (t : ℕ) → Standing legal n t → n ≤ t → members legal t ≡ members legal n
-  done t s l = ap (members legal) (omega (arith, s .within))
 
   -- a walk from the member at position p visits the members from there on
   from : (d p : ℕ) → length (members legal n) ≤ p + d → walk (λ t. nextOf legal t n) n d (getD (members legal n) p n) ≡ drop p (members legal n)

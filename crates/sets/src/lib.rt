@@ -6,7 +6,7 @@ ghost use mathlib.Core.Path.{_≡_};
 ghost use mathlib.Core.Bool.{false, _&&_, _||_};
 ghost use lib.Dec.{eqb};
 ghost use lib.ListN.{length};
-ghost use Rattle.sets.specs.Set.{has, word, members, nextOf};
+ghost use Rattle.sets.specs.Set.{has, word, members, nextOf, restOf};
 
 // The set with no strand in it.
 pub fn empty() -> u64
@@ -79,4 +79,26 @@ pub fn next(set: u64, from: u32) -> u32
     } else {
         64
     }
+}
+
+// Whether no strand is in the set.
+pub fn is_empty(set: u64) -> bool
+    ensures { λ r. ⌜ r ≡ eqb (length (members (has set) 64)) 0 ⌝ }
+{
+    set == 0
+}
+
+// The lowest strand of the set, and 64 where there is none.
+pub fn first(set: u64) -> u32
+    ensures { λ r. ⌜ r ≡ nextOf (has set) 0 64 ⌝ }
+{
+    u64::trailing_zeros(set)
+}
+
+// The set without its lowest strand: a step of a walk that takes strands away
+// (`proofs/Taking.antt`). The empty set stays empty.
+pub fn rest(set: u64) -> u64
+    ensures { λ r. ⌜ r ≡ word (restOf (has set) 64) 64 ⌝ }
+{
+    if set == 0 { 0 } else { set & (set - 1) }
 }

@@ -15,7 +15,7 @@ use Rattle.run_tables.proofs.bonds_of.fill_bonds.Tie as tie
 
 abbrev Inv-loop : tie.InvT-loop
 Inv-loop z strand-glues delta-g entropy north-south table₀ i₀ table i =
-    (i ≤ length table) × (take i table ≡ tab (λ (j : ℕ). pairEnergy z strand-glues delta-g entropy north-south (j / 64) (j % 64)) i) × (length table ≡ length table₀)
+    (i ≤ length table) × (take i table ≡ tab (λ (j : ℕ). pairEnergy z strand-glues delta-g entropy north-south (j % 64) (j / 64)) i) × (length table ≡ length table₀)
 
 abbrev μ-loop : tie.MeasureT-loop
 μ-loop z strand-glues delta-g entropy north-south table₀ i₀ table i = length table₀ - i
@@ -48,7 +48,7 @@ loop-again c =
     let table = turn .before .loop .table in
     let i = turn .before .loop .i in (
       simp length-set (omega (arith, turn .loop-test .taken)),
-      one-more (λ (j : ℕ). pairEnergy (a .z) (now (a .strand-glues)) (now (a .delta-g)) (now (a .entropy)) (a .north-south) (j / 64) (j % 64)) table i (turn .before .loop .inv .1) (turn .loop-test .taken) (c .pair-energy .ensures),
+      one-more (λ (j : ℕ). pairEnergy (a .z) (now (a .strand-glues)) (now (a .delta-g)) (now (a .entropy)) (a .north-south) (j % 64) (j / 64)) table i (turn .before .loop .inv .1) (turn .loop-test .taken) (c .pair-energy .ensures),
       simp length-set (turn .before .loop .inv .2),
     )
 
@@ -60,7 +60,7 @@ returns c =
     let s = c .before .before .before .before .before .before in
     let a = s .args in
     let long : length (c .before .loop .table) ≡ 4096 = c .before .loop .inv .2 ∙ s .pre .1 in
-    whole (λ (j : ℕ). pairEnergy (a .z) (now (a .strand-glues)) (now (a .delta-g)) (now (a .entropy)) (a .north-south) (j / 64) (j % 64)) (c .before .loop .table) (c .before .loop .i) 4096 (c .before .loop .inv .1)
+    whole (λ (j : ℕ). pairEnergy (a .z) (now (a .strand-glues)) (now (a .delta-g)) (now (a .entropy)) (a .north-south) (j % 64) (j / 64)) (c .before .loop .table) (c .before .loop .i) 4096 (c .before .loop .inv .1)
     (omega (arith, c .before .loop .inv .0, c .loop-test .left, long)) long
 
 pub fill-bonds-spec : {M : Type 1} → statement M
