@@ -4,7 +4,7 @@ use mathlib.Core.Path.{_≡_, refl}
 use Rattle.entries.specs.Entries.{offsetsFrom, areFlags, sameBytes}
 use Rattle.strand_names.specs.Numerals.{numeralsFrom, numeralsText}
 use Rattle.strand_names.specs.Names.{Names, names, namesSized, nullFirst, namesRead}
-use Rattle.bay_names.specs.Bays.{nameOf, bayText, begun, characterCount, widestBay}
+use Rattle.bay_names.specs.Bays.{nameOf, bayText, begun, characterCount, frontBytes, widestBay}
 
 -- three strands: `null`, one without a name, and `aé`
 three : Names
@@ -19,3 +19,8 @@ by-place = refl
 two-wide : widestBay three (0 ∷ 1 ∷ 2 ∷ []) ≡ 2
 unfolding three offsetsFrom areFlags sameBytes numeralsFrom namesSized nullFirst namesRead nameOf bayText begun characterCount widestBay
 two-wide = refl
+
+-- the first two characters of `aéb` have three bytes
+three-bytes : frontBytes 2 (97 ∷ 195 ∷ 169 ∷ 98 ∷ []) ≡ 3
+unfolding begun frontBytes
+three-bytes = refl

@@ -1,5 +1,5 @@
 -- What is shown for the bays of a layout, and how many characters it has. Assumes nothing.
-use Prim.Native.Nat.{ℕ, _+_, max}
+use Prim.Native.Nat.{ℕ, suc, _+_, _-_, max}
 use mathlib.Core.Bool.{cond}
 use mathlib.Core.List.{List, [], _∷_}
 use lib.Dec.{eqb, ltb}
@@ -24,6 +24,11 @@ begun byte = cond (ltb byte 128) 1 (cond (ltb byte 192) 0 1)
 unfoldable pub characterCount : List ℕ → ℕ
 characterCount [] = 0
 characterCount (byte ∷ bytes) = begun byte + characterCount bytes
+
+-- how many bytes the first so many characters of a text have
+unfoldable pub frontBytes : (count : ℕ) → List ℕ → ℕ
+frontBytes count [] = 0
+frontBytes count (byte ∷ bytes) = cond (ltb count (begun byte)) 0 (suc (frontBytes (count - begun byte) bytes))
 
 -- the most characters that one of the bays shows
 unfoldable pub widestBay : Names → (layout : List ℕ) → ℕ

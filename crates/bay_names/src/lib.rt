@@ -3,7 +3,7 @@ ghost use mathlib.Core.Path.{_≡_};
 ghost use Prim.Native.Nat.{max};
 ghost use lib.ListN.{getD};
 ghost use Rattle.strand_names.specs.Names.{names};
-ghost use Rattle.bay_names.specs.Bays.{nameOf, bayText, begun, characterCount, widestBay};
+ghost use Rattle.bay_names.specs.Bays.{nameOf, bayText, begun, characterCount, frontBytes, widestBay};
 
 // The name that is shown for a tile, there being as many strands as presence bytes.
 pub fn name_of<'a>(
@@ -40,6 +40,23 @@ pub fn characters(text: &[u8]) -> usize
         i += 1;
     }
     count
+}
+
+// How many bytes the first so many characters of a text have.
+pub fn front(text: &[u8], count: usize) -> usize
+    ensures { λ r. ⌜ r ≡ frontBytes count (now (text .entry)) ⌝ }
+{
+    let mut left = count;
+    let mut i = 0;
+    while i < text.len() {
+        let begun = begins(text[i]);
+        if left < begun {
+            return i;
+        }
+        left -= begun;
+        i += 1;
+    }
+    i
 }
 
 // 1 for a byte that begins a character.
