@@ -2,7 +2,9 @@
 use mathlib.Core.List.{[], _∷_}
 use mathlib.Core.Path.{_≡_, refl}
 use Rattle.answer_texts.proofs.Putting.{put-as, then-put}
+use Rattle.strand_names.specs.Names.{names}
 use Rattle.xml_text.specs.Words.{bytes}
+use Rattle.bay_drawing.specs.Squares.{tileLabel}
 use borrow.Author.Needs.{needs}
 use Rattle.bay_drawing.proofs.put_bay.Statement.{statement}
 use Rattle.bay_drawing.proofs.put_bay.Tie as tie
@@ -35,7 +37,9 @@ returns c =
     let part3 = part4 .before .before .before .before .before in
     let part2 = part3 .before .before .before .before in
     let part1 = part2 .before .before .before .before in
-    then-put (then-put (then-put (part1 .put-place .ensures) (part2 .put-square .ensures)) (part3 .put-tile-label .ensures)) (put-as closing (part4 .put-text .ensures))
+    let a = part1 .before .before .before .before .before .before .before .args in
+    let named = tileLabel (names (a .text .now) (a .offsets .now) (a .present .now) (a .numerals .now)) (a .tile) in
+    then-put (then-put {b = named} (then-put (part1 .put-place .ensures) (part2 .put-square .ensures)) (part3 .put-tile-label .ensures)) (put-as closing (part4 .put-text .ensures))
 
 pub put-bay-spec : {M : Type 1} → statement M
 put-bay-spec =

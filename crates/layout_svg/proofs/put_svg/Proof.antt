@@ -2,6 +2,7 @@
 use native.Mathlib.Omega.{arith}
 use Rattle.strand_names.specs.Names.{names}
 use Rattle.answer_texts.proofs.Putting.{put-as, then-put, put-within}
+use Rattle.layout_svg.specs.Drawing.{rowsDrawing}
 use Rattle.layout_svg.proofs.Whole.{small, drawn, not-drawn}
 use borrow.Author.Needs.{needs}
 use Rattle.layout_svg.proofs.put_svg.Statement.{statement}
@@ -85,8 +86,10 @@ returns-2 c =
     let wide = head .before .before in
     let way = wide .before in
     let a = way .before .before .before .before .before .before .before .before .before .args in
-    put-as (drawn (a .rows) (a .cols) (way .before .has-room .ensures) (names (a .text .now) (a .offsets .now) (a .present .now) (a .numerals .now)) (a .layout .now) (a .marks .now) (a .energy) (way .if1 .left) (wide .across .ensures))
-    (then-put (then-put (head .put-head .ensures) (grid .put-rows .ensures)) (foot .put-foot .ensures))
+    let n = names (a .text .now) (a .offsets .now) (a .present .now) (a .numerals .now) in
+    let rows = rowsDrawing n (a .cols) 0 (a .layout .now) (a .marks .now) (a .rows) in
+    put-as (drawn (a .rows) (a .cols) (way .before .has-room .ensures) n (a .layout .now) (a .marks .now) (a .energy) (way .if1 .left) (wide .across .ensures))
+    (then-put (then-put {b = rows} (head .put-head .ensures) (grid .put-rows .ensures)) (foot .put-foot .ensures))
 
 pub put-svg-spec : {M : Type 1} → statement M
 put-svg-spec =
