@@ -196,7 +196,7 @@ fn after_the_sign(text: &[u8]) -> FloatValue
     signed(true, &text[1..])
 }
 
-// A decimal: up to 15 digits, up to 22 of them after the point, a minus in front where it is negative.
+// A decimal: at most 15 digits from the first that is not 0 on, at most 22 after the point, a minus in front where it is negative.
 pub fn decimal(text: &[u8]) -> FloatValue
     ensures { λ r. ⌜ r ≡ decimalOf (now (text .entry)) ⌝ }
 {

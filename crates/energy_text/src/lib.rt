@@ -63,7 +63,7 @@ fn of_bits(bits: u64) -> Hundredths
     }
 }
 
-// The nearest hundredth of an energy, a half counted up.
+// The nearest hundredth of an energy, a half counted away from 0.
 pub fn nearest_hundredth(energy: f64) -> Hundredths
     ensures { λ r. ⌜ r ≡ nearestHundredth energy ⌝ }
 {

@@ -4,44 +4,13 @@ use Prim.Native.Nat.{ℕ, zero, suc, _+_, _-_, _≤_, _<_}
 use mathlib.Core.Path.{_≡_, refl, _∙_, ap}
 use mathlib.Core.Bool.{Bool, true, cond}
 use mathlib.Core.List.{List, [], _∷_}
-use native.Mathlib.Nat.{zero-add, le-refl}
+use native.Mathlib.Nat.{zero-add}
 use native.Mathlib.Omega.{arith}
-use lib.ListN.{length, getD, length-append}
-use borrow.Author.Tests.{eq-eqb, ne-eqb, le-leb}
-use Rattle.entries.specs.Entries.{offsetsFrom}
+use lib.ListN.{length, getD}
+use borrow.Author.Tests.{eq-eqb, ne-eqb}
 use Rattle.bay_lists.specs.Lists.{Constraints, constraints, listOf, offsetsShaped}
-use Rattle.sheet_cells.specs.Cells.{allTiles, starts}
-use Rattle.sheet_grammar.proofs.Offsets.{length-starts, list-of-starts}
+use Rattle.sheet_grammar.proofs.Offsets.{starts-shaped, list-of-starts}
 use Rattle.one_choice.specs.Choice.{listAfter, listsAfter, choice}
-
--- ---- the places at which lists begin have the shape of offsets
-
-first-start : (n : ℕ) (ls : List (List ℕ)) → getD (starts n ls) 0 0 ≡ n
-unfolding starts
-first-start n [] = refl
-first-start n (l ∷ ls) = refl
-
-last-start : (n : ℕ) (ls : List (List ℕ)) → getD (starts n ls) (length ls) 0 ≡ n + length (allTiles ls)
-unfolding starts allTiles
-last-start n [] = omega arith
-last-start n (l ∷ ls) = let more = last-start (n + length l) ls in let sum = length-append l (allTiles ls) in omega arith
-
-starts-fit : (end last n : ℕ) (ls : List (List ℕ)) → last ≤ n → n + length (allTiles ls) ≤ end → offsetsFrom end last (starts n ls) ≡ true
-unfolding starts allTiles offsetsFrom
-starts-fit end last n [] h k = rw (le-leb last n h, le-leb n end (omega arith))
-starts-fit end last n (l ∷ ls) h k =
-    let sum = length-append l (allTiles ls) in
-    let fits : n ≤ end = omega arith in
-    rw (le-leb last n h, le-leb n end fits) (starts-fit end n (n + length l) ls (omega arith) (omega arith))
-
-pub starts-shaped : (ls : List (List ℕ)) → offsetsShaped (length ls) (constraints true (starts 0 ls) (allTiles ls)) ≡ true
-starts-shaped ls =
-    rw (
-      eq-eqb (length (starts 0 ls)) (length ls + 1) (length-starts 0 ls),
-      eq-eqb (getD (starts 0 ls) 0 0) 0 (first-start 0 ls),
-      starts-fit (length (allTiles ls)) 0 0 ls (le-refl 0) (omega arith),
-      eq-eqb (getD (starts 0 ls) (length ls) 0) (length (allTiles ls)) (last-start 0 ls ∙ zero-add (length (allTiles ls))),
-    )
 
 -- ---- the lists after a choice
 

@@ -1,4 +1,4 @@
-// A sheet over a grid of bays: a test of all of its fields, in one pass over its text.
+// A sheet over a grid of bays: a test of all of its fields, field by field from the front.
 ghost use mathlib.Core.Path.{_≡_};
 ghost use Prim.Native.Nat.{_≤_};
 ghost use Rattle.sheet_cells.specs.Checks.{sheetCheck};

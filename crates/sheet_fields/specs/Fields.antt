@@ -22,13 +22,14 @@ quotedLength [] = 0
 quotedLength (a ∷ []) = cond (eqb a 34) 0 1
 quotedLength (a ∷ b ∷ t) = cond (eqb a 34) (cond (eqb b 34) (suc (suc (quotedLength t))) 0) (suc (quotedLength (b ∷ t)))
 
--- how a field ends before this text: with the text's end, a comma, LF or CR LF; any other byte breaks it, a CR without LF too
+-- a field that is broken, and one that ended, with so many bytes at its end
 abbrev pub broken : Ending
 broken = record { sound = false; more = false; width = 0 }
 
 abbrev pub ended : (more : Bool) → (width : ℕ) → Ending
 ended more width = record { sound = true; more = more; width = width }
 
+-- how a field ends before this text: with the text's end, a comma, LF or CR LF; any other byte breaks it, a CR without LF too
 unfoldable pub endingOf : List ℕ → Ending
 endingOf [] = ended false 0
 endingOf (b ∷ t) =

@@ -13,7 +13,7 @@ use Rattle.units.specs.Kelvin.{inKelvinRange}
 use Rattle.units.specs.Refusals.{Verdict, passes, _▷_, ifPasses}
 use Rattle.units.proofs.Verdicts.{first-passes, no-fault}
 use Rattle.sdc2d.specs.System.{System, inRange, sizesFit, lengthsFit, sizesVerdict, gluesVerdict, energiesVerdict, seedsVerdict, systemVerdict}
-use Rattle.bay_lists.specs.Lists.{Constraints, constraints, listOf}
+use Rattle.bay_lists.specs.Lists.{Constraints, constraints, listOf, offsetsShaped}
 use Rattle.legal_at.specs.declared.seeds.Seed.the-variants.{Unseeded}
 use Rattle.legal_at.specs.Legal.{seedAt, isLegal, setAt}
 use Rattle.legal_at.proofs.ChemistsQuestion.{keep-it-empty, no-restriction}
@@ -29,7 +29,7 @@ use Rattle.sheet_grammar.specs.Grammar.{RecordText, last, comma, SheetTe
 use Rattle.sheet_grammar.proofs.Contents.{0-reads-as-0, only-0-reads-as-0, nothing-reads-as-empty, only-nothing-reads-as-empty}
 use Rattle.sheet_grammar.proofs.OneField.{cell-read}
 use Rattle.sheet_grammar.proofs.Accepted.{NoFault, sound}
-use Rattle.sheet_grammar.proofs.Offsets.{list-of-starts}
+use Rattle.sheet_grammar.proofs.Offsets.{starts-shaped, list-of-starts}
 
 -- ---- the field of a bay
 
@@ -44,6 +44,10 @@ unfolding cells contents
 cell-at zero t i h = absurd (omega arith)
 cell-at (suc n) t zero h = refl
 cell-at (suc n) t (suc i) h = cell-at n (after t) i (omega arith)
+
+-- the offsets that a sheet gives have the shape that the calls on constraints ask, whatever the text is
+pub sheet-is-shaped : (rows columns : ℕ) (text : List ℕ) → offsetsShaped (rows * columns) (sheetConstraints rows columns text) ≡ true
+sheet-is-shaped rows columns text = rw (length-cells (rows * columns) text) at (starts-shaped (sheetLists rows columns text))
 
 -- the list of a bay is what its field's content reads as
 pub list-of-field : (rows columns : ℕ) (text : List ℕ) (bay : ℕ) → bay < rows * columns

@@ -3,6 +3,7 @@ pub mod Contents
 pub mod Bare
 pub mod OneField
 pub mod Accepted
+pub mod Calls
 pub mod Numbers
 pub mod Offsets
 pub mod RoundTrip

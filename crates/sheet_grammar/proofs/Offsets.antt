@@ -3,14 +3,14 @@ use Prim.Native.Nat.{ℕ, zero, suc, _+_, _-_, _≤_, _<_}
 use mathlib.Core.Path.{_≡_, refl, sym, _∙_, ap}
 use mathlib.Core.Bool.{true, _&&_}
 use mathlib.Core.List.{List, [], _∷_, _++_, append-assoc}
-use native.Mathlib.Nat.{zero-add}
+use native.Mathlib.Nat.{zero-add, le-refl}
 use native.Mathlib.Numerals.{add-one}
 use native.Mathlib.Omega.{arith}
 use lib.Dec.{eqb}
 use lib.ListN.{length, getD, drop, length-append, take-append-drop, drop-of-length-le}
 use lib.Seq.{drop-cons, drop-drop, drop-length, take-append-seam, drop-append-seam}
-use borrow.Author.Tests.{eqb-true}
-use Rattle.entries.specs.Entries.{part, offsetsFit}
+use borrow.Author.Tests.{eqb-true, eq-eqb, le-leb}
+use Rattle.entries.specs.Entries.{part, offsetsFit, offsetsFrom}
 use Rattle.entries.proofs.Bounds.{entry-starts, offset-within, length-part}
 use Rattle.entries.proofs.Same.{both}
 use Rattle.bay_lists.specs.Lists.{Constraints, constraints, listOf, offsetsShaped}
@@ -29,6 +29,29 @@ pub length-starts : (n : ℕ) (ls : List (List ℕ)) → length (starts n ls) �
 unfolding starts
 length-starts n [] = refl
 length-starts n (l ∷ ls) = let more = length-starts (n + length l) ls in omega arith
+
+-- the places at which lists begin have the shape of offsets
+last-start : (n : ℕ) (ls : List (List ℕ)) → getD (starts n ls) (length ls) 0 ≡ n + length (allTiles ls)
+unfolding starts allTiles
+last-start n [] = omega arith
+last-start n (l ∷ ls) = let more = last-start (n + length l) ls in let sum = length-append l (allTiles ls) in omega arith
+
+starts-fit : (end last n : ℕ) (ls : List (List ℕ)) → last ≤ n → n + length (allTiles ls) ≤ end → offsetsFrom end last (starts n ls) ≡ true
+unfolding starts allTiles offsetsFrom
+starts-fit end last n [] h k = rw (le-leb last n h, le-leb n end (omega arith))
+starts-fit end last n (l ∷ ls) h k =
+    let sum = length-append l (allTiles ls) in
+    let fits : n ≤ end = omega arith in
+    rw (le-leb last n h, le-leb n end fits) (starts-fit end n (n + length l) ls (omega arith) (omega arith))
+
+pub starts-shaped : (ls : List (List ℕ)) → offsetsShaped (length ls) (constraints true (starts 0 ls) (allTiles ls)) ≡ true
+starts-shaped ls =
+    rw (
+      eq-eqb (length (starts 0 ls)) (length ls + 1) (length-starts 0 ls),
+      eq-eqb (getD (starts 0 ls) 0 0) 0 (starts-some 0 ls),
+      starts-fit (length (allTiles ls)) 0 0 ls (le-refl 0) (omega arith),
+      eq-eqb (getD (starts 0 ls) (length ls) 0) (length (allTiles ls)) (last-start 0 ls ∙ zero-add (length (allTiles ls))),
+    )
 
 -- what stands between the offsets of a list is the list, numbers in front or not
 list-between : (before : List ℕ) (ls : List (List ℕ)) (i : ℕ) → i < length ls

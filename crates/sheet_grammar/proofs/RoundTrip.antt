@@ -8,7 +8,7 @@ use native.Mathlib.Omega.{arith}
 use lib.Dec.{ltb, leb}
 use lib.ListN.{length, getD, take, drop, length-take, List·getD-eq-default}
 use lib.Seq.{getD-take, getD-drop, take-append-seam}
-use borrow.Author.Tests.{le-ltb, leb-true, leb-false, eq-eqb, not-false}
+use borrow.Author.Tests.{le-ltb, ltb-false, leb-true, leb-false, eq-eqb, not-false}
 use Rattle.units.specs.Refusals.{Verdict, passes, refuseIf, _▷_, ifPasses}
 use Rattle.units.proofs.Verdicts.{first-passes, rest-passes, no-fault}
 use Rattle.answer_texts.specs.Puts.{numberText}
@@ -220,14 +220,25 @@ module _ (rows columns : ℕ) (offsets tiles text : List ℕ) (wrote : writeVerd
       not-false (offsetsShaped (rows * columns) (constraints true offsets tiles))
       (no-fault (not (offsetsShaped (rows * columns) (constraints true offsets tiles))) 5 [] (first-passes shape-link room-link (rest-passes (gridVerdict rows columns) (shape-link ▷ room-link) wrote)))
 
-  -- the bytes that it counts are the sheet
-  pub bytes-left : length wanted < 2 ^ 64 → take (bytesNeeded rows columns offsets tiles) (textAfter rows columns offsets tiles text) ≡ wanted
-  bytes-left fits =
+  -- the sheet is no longer than the text that was lent
+  not-longer : length text < 2 ^ 63 → length wanted < 2 ^ 63
+  not-longer slice =
+      let enough =
+      ltb-false (length text) (bytesNeeded rows columns offsets tiles)
+      (no-fault (ltb (length text) (bytesNeeded rows columns offsets tiles)) 9 (bytesNeeded rows columns offsets tiles ∷ [])
+      (rest-passes shape-link room-link (rest-passes (gridVerdict rows columns) (shape-link ▷ room-link) wrote)))
+      in
+      omega arith
+
+  -- the bytes that it counts are the sheet; a slice of bytes is shorter than 2^63
+  pub bytes-left : length text < 2 ^ 63 → take (bytesNeeded rows columns offsets tiles) (textAfter rows columns offsets tiles text) ≡ wanted
+  bytes-left slice =
+      let fits = not-longer slice in
       let all : bytesNeeded rows columns offsets tiles ≡ length wanted = omega arith in
       ap (λ (v : Verdict). take (bytesNeeded rows columns offsets tiles) (ifPasses v (front wanted text) text)) wrote
       ∙ ap (λ (n : ℕ). take n (front wanted text)) all ∙ take-append-seam wanted (drop (length wanted) text)
 
-  module _ (small : (i : ℕ) → i < length tiles → getD tiles i 0 < 2 ^ 32) (fits : length wanted < 2 ^ 64) (o t : List ℕ) (room : length o ≡ rows * columns + 1)
+  module _ (small : (i : ℕ) → i < length tiles → getD tiles i 0 < 2 ^ 32) (slice : length text < 2 ^ 63) (o t : List ℕ) (room : length o ≡ rows * columns + 1)
       (long : length tiles ≤ length t) where
     abbrev left : List ℕ
     left = take (bytesNeeded rows columns offsets tiles) (textAfter rows columns offsets tiles text)
@@ -236,7 +247,7 @@ module _ (rows columns : ℕ) (offsets tiles text : List ℕ) (wrote : writeVerd
     read-back =
         let side = both (leb 1 columns) (leb columns 32) (both (isSide rows) (isSide columns) on-grid .1) .0 in
         let some = leb-true 1 columns side in
-        rw (bytes-left fits) (
+        rw (bytes-left slice) (
           reading-passes rows columns offsets tiles some small of-shape o t on-grid room long,
           (
             offsets-come-back rows columns offsets tiles some small of-shape o t on-grid room long,

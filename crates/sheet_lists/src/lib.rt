@@ -10,7 +10,7 @@ ghost use Rattle.sheet_cells.specs.Checks.{areCells, countIn};
 use number_lists::put_list;
 use sheet_fields::field_at;
 
-// Writes the lists of the first `bays` fields. A list may lie across records: a field's end says where the next one begins.
+// Writes the lists of the first `bays` fields. Records play no part here: a field's end says where the next one begins.
 pub fn put_lists(text: &[u8], bays: usize, offsets: &mut [usize], tiles: &mut [u32])
     requires { ⌜ areCells bays (now text) ≡ true ⌝ }
     requires { ⌜ length (now offsets) ≡ bays + 1 ⌝ }
