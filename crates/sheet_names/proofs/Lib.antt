@@ -1,5 +1,6 @@
 pub mod Appending
 mod Examples
 pub mod Filling
+pub mod Fronts
 pub mod ReadBack
 pub mod Unquoting

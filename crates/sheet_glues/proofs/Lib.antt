@@ -1,0 +1,2 @@
+mod Examples
+pub mod Gluing
