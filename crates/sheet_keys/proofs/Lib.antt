@@ -1,0 +1,4 @@
+pub mod Checking
+mod Examples
+pub mod Numbers
+pub mod Texts

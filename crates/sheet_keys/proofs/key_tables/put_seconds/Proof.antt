@@ -1,0 +1,67 @@
+-- `key_tables::put_seconds` meets its contract. The loop's invariant is `InSeconds`: the flags that are left end the table. Assumes nothing.
+use Prim.Native.Nat.{_-_}
+use Rattle.sheet_keys.proofs.Texts.{InSeconds, seconds-start, seconds-go-on, seconds-end}
+use borrow.Author.Needs.{needs}
+use Rattle.sheet_keys.proofs.key_tables.put_seconds.Statement.{statement}
+use Rattle.sheet_keys.proofs.key_tables.put_seconds.Tie as tie
+
+abbrev Inv-loop : tie.InvT-loop
+Inv-loop present records paired₀ i₀ paired i = InSeconds records present paired₀ paired i
+
+abbrev μ-loop : tie.MeasureT-loop
+μ-loop present records paired₀ i₀ paired i = records - i
+
+loop-holds : tie.Need-loop-holds Inv-loop μ-loop
+loop-holds c = let a = c .args in seconds-start (a .records) (a .present .now) (a .paired .now)
+
+mul-paired : tie.Need-mul-paired Inv-loop μ-loop
+mul-paired c = search needs
+
+add-paired : tie.Need-add-paired Inv-loop μ-loop
+add-paired c = search needs
+
+shared-slice-read-paired : tie.Need-shared-slice-read-paired Inv-loop μ-loop
+shared-slice-read-paired c = search needs
+
+slice-write-paired : tie.Need-slice-write-paired Inv-loop μ-loop
+slice-write-paired c = let s = c .before .before .loop in let long = s .inv .long in search needs
+
+add-i : tie.Need-add-i Inv-loop μ-loop
+add-i c = search needs
+
+loop-less : tie.Need-loop-less Inv-loop μ-loop
+loop-less c = search needs
+
+loop-again : tie.Need-loop-again Inv-loop μ-loop
+loop-again c =
+    let l = c .before .before in
+    let a = l .before .args in
+    let s = l .loop in
+    seconds-go-on (a .records) (a .present .now) (a .paired .now) (s .paired) (s .i) (s .inv) (c .before .loop-test .taken)
+
+same-length : tie.Need-same-length Inv-loop μ-loop
+same-length c = c .before .loop .inv .long
+
+returns : tie.Need-returns Inv-loop μ-loop
+returns c =
+    let l = c .before in
+    let a = l .before .args in
+    let s = l .loop in
+    seconds-end (a .records) (a .present .now) (a .paired .now) (s .paired) (s .i) (s .inv) (c .loop-test .left)
+
+pub put-seconds-spec : {M : Type 1} → statement M
+put-seconds-spec =
+    tie.close
+    (tie.spec
+    Inv-loop
+    μ-loop
+    loop-holds
+    mul-paired
+    add-paired
+    shared-slice-read-paired
+    slice-write-paired
+    add-i
+    loop-less
+    loop-again
+    same-length
+    returns)
