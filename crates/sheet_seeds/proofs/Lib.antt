@@ -1,0 +1,3 @@
+mod Earlier
+mod Examples
+mod Turns

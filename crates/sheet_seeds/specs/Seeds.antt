@@ -1,0 +1,54 @@
+-- What the seeds' sheet tells, a record of three fields for each seed: its row and its column, counted from 1, and its name. Assumes nothing.
+use Prim.Native.Nat.{ℕ, _+_}
+use mathlib.Core.Bool.{Bool, cond}
+use mathlib.Core.List.{List, [], _∷_, map}
+use lib.Dec.{eqb, ltb}
+use Rattle.sheet_records.specs.Tables.{columns}
+use Rattle.sheet_numbers.specs.Counts.{isCount, fromZero}
+use Rattle.sheet_seeds.specs.declared.PlaceFault.{PlaceFault}
+
+-- row and column of each seed, as they stand in the sheet
+abbrev pub placeFields : (records : ℕ) → List ℕ → List (List ℕ)
+placeFields records sheet = columns records 3 0 2 sheet
+
+-- row and column of each seed, counted from 0
+unfoldable pub placesOf : (records : ℕ) → List ℕ → List ℕ
+placesOf records sheet = map fromZero (placeFields records sheet)
+
+-- all rows and columns can be read, or one cannot: its line and the number of its field
+abbrev pub allRead : PlaceFault
+allRead = record { line = 0; field = 0 }
+
+abbrev pub fault : (line field : ℕ) → PlaceFault
+fault line field = record { line = line; field = field }
+
+-- of rows and columns by turns that can be read or not, the first that cannot, counted from a line on
+unfoldable pub firstOf : (line : ℕ) → List Bool → PlaceFault
+firstOf line [] = allRead
+firstOf line (row ∷ []) = allRead
+firstOf line (row ∷ column ∷ more) = cond row (cond column (firstOf (line + 1) more) (fault line 2)) (fault line 1)
+
+-- the first row or column that is none
+unfoldable pub placeFault : (records : ℕ) → List ℕ → PlaceFault
+placeFault records sheet = firstOf 1 (map isCount (placeFields records sheet))
+
+-- the names of the seeds
+unfoldable pub seedNames : (records : ℕ) → List ℕ → List (List ℕ)
+seedNames records sheet = columns records 3 2 1 sheet
+
+-- ---- what the functions on the way find
+
+-- the elements of two lists by turns
+unfoldable pub turns : List ℕ → List ℕ → List ℕ
+turns [] ys = []
+turns (x ∷ xs) [] = []
+turns (x ∷ xs) (y ∷ ys) = x ∷ y ∷ turns xs ys
+
+-- the fault of a line with a bad column, 0 where there is none
+abbrev pub columnFault : (column : ℕ) → PlaceFault
+columnFault column = cond (eqb column 0) allRead (fault column 2)
+
+-- of a line with a bad row and one with a bad column, each 0 where there is none, the first; the row's where they are one
+abbrev pub earlier : (row column : ℕ) → PlaceFault
+earlier row column =
+    cond (eqb row 0) (columnFault column) (cond (eqb column 0) (fault row 1) (cond (ltb column row) (fault column 2) (fault row 1)))

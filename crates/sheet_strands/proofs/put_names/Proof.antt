@@ -1,0 +1,68 @@
+-- `sheet_strands::put_names` meets its contract: `null` is put, and the sheet's names are appended to it. Assumes nothing.
+use native.Mathlib.Omega.{arith}
+use lib.ListN.{length-set}
+use borrow.Author.Needs.{needs}
+use Rattle.answer_texts.proofs.Putting.{put-within}
+use Rattle.strand_names.specs.Names.{nullName}
+use Rattle.sheet_records.specs.Tables.{columns}
+use Rattle.sheet_names.specs.Appended.{flagOf}
+use Rattle.sheet_names.proofs.Appending.{appended-offsets, appended-present}
+use Rattle.sheet_strands.specs.Strands.{namesOf}
+use Rattle.sheet_strands.proofs.Filling.{filled-after}
+use mathlib.Core.Path.{refl, _∙_}
+use Rattle.sheet_strands.proofs.put_names.Statement.{statement}
+use Rattle.sheet_strands.proofs.put_names.Tie as tie
+
+slice-aggregate-put-text : tie.Need-slice-aggregate-put-text
+slice-aggregate-put-text c = search needs
+
+put-text-requires : tie.Need-put-text-requires
+put-text-requires c κs = search needs
+
+slice-write-offsets : tie.Need-slice-write-offsets
+slice-write-offsets c = search needs
+
+slice-write-offsets-2 : tie.Need-slice-write-offsets-2
+slice-write-offsets-2 c = simp length-set (omega arith)
+
+slice-write-present : tie.Need-slice-write-present
+slice-write-present c = search needs
+
+put-columns-requires : tie.Need-put-columns-requires
+put-columns-requires c κs =
+    let put = c .before .before .before .before .before in
+    let start = put .before .before .before .before .before .before .before in
+    let pre = start .pre in
+    (omega arith, (put-within (put .put-text .ensures), (simp length-set (omega arith), simp length-set (omega arith))))
+
+same-length : tie.Need-same-length
+same-length c = search needs
+
+same-length-2 : tie.Need-same-length-2
+same-length-2 c = appended-offsets (c .before .before .before .before .before .before .put-columns .ensures) ∙ simp length-set
+
+same-length-3 : tie.Need-same-length-3
+same-length-3 c = appended-present (c .before .before .before .before .before .before .put-columns .ensures) ∙ simp length-set
+
+returns : tie.Need-returns
+unfolding namesOf flagOf
+returns c =
+    let call = c .before .before .before .before .before .before in
+    let put = call .before .before .before .before .before .before in
+    let a = put .before .before .before .before .before .before .before .args in
+    filled-after (a .text .now) (a .offsets .now) (a .present .now) nullName (columns (a .records) 7 0 1 (a .sheet .now)) refl (put .put-text .ensures) (call .put-columns .ensures)
+
+pub put-names-spec : {M : Type 1} → statement M
+put-names-spec =
+    tie.close
+    (tie.spec
+    slice-aggregate-put-text
+    put-text-requires
+    slice-write-offsets
+    slice-write-offsets-2
+    slice-write-present
+    put-columns-requires
+    same-length
+    same-length-2
+    same-length-3
+    returns)
