@@ -1,0 +1,5 @@
+pub mod Answering
+pub mod LegalByCode
+pub mod KeptByMark
+pub mod Examples
+pub mod Unique
