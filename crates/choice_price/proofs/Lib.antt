@@ -1,0 +1,5 @@
+pub mod Choices
+pub mod Priced
+pub mod ThePriceIsRight
+pub mod Unique
+pub mod Examples
