@@ -1,0 +1,87 @@
+// The six sheets of a folder, each read whole and tested to be text.
+use crate::messages::begin;
+use crate::messages::finish;
+use crate::messages::put_with;
+use crate::messages::say;
+use answer_texts::put_text;
+use sheet_files::FileRead;
+use sheet_files::read_file;
+
+// Whether a folder can be opened.
+pub(crate) fn is_folder_there(folder: &[u8]) -> bool {
+    let file = os::open_read(folder);
+    if file < 0 {
+        say(folder, b"there is no such folder, or it cannot be read");
+        return false;
+    }
+    libc::close(file);
+    true
+}
+
+// Says that a file could not be opened.
+fn say_missing(folder: &[u8], name: &[u8]) {
+    let mut line = [0u8; 8192];
+    let at = begin(&mut line, folder);
+    let next = put_text(&mut line, at, name);
+    finish(
+        &mut line,
+        next,
+        b" is missing or cannot be read; a folder has strands.csv, scaffold.csv, energies.csv, seeds.csv, temperature.csv and constraints.csv",
+    );
+}
+
+// Says that a file is larger than its room.
+fn say_large(folder: &[u8], name: &[u8], room: usize) {
+    let mut line = [0u8; 8192];
+    let at = begin(&mut line, folder);
+    let next = put_text(&mut line, at, name);
+    let end = put_with(&mut line, next, b" has as many bytes as the planner's room for it or more, ", room);
+    finish(&mut line, end, b"; make it smaller, or use the library");
+}
+
+// Says that a file has no bytes.
+fn say_empty(folder: &[u8], name: &[u8]) {
+    let mut line = [0u8; 8192];
+    let at = begin(&mut line, folder);
+    let next = put_text(&mut line, at, name);
+    finish(
+        &mut line,
+        next,
+        b" is empty, which says nothing: no seeds are the word none, and no restrictions are a field without content for each bay",
+    );
+}
+
+// Says that a file is no text.
+fn say_no_text(folder: &[u8], name: &[u8], place: usize) {
+    let mut line = [0u8; 8192];
+    let at = begin(&mut line, folder);
+    let next = put_text(&mut line, at, name);
+    let end = put_with(&mut line, next, b" is no text: the byte at place ", place);
+    finish(
+        &mut line,
+        end,
+        b", counted from 0, is no part of UTF-8 text; save the sheet as comma-separated values",
+    );
+}
+
+// Whether a file could be read, fits its room, has bytes and is text; where not, a sentence says so.
+pub(crate) fn is_sheet(folder: &[u8], name: &[u8], read: FileRead, room: usize, text: &[u8]) -> bool {
+    if !read.opened {
+        say_missing(folder, name);
+        return false;
+    }
+    if room <= read.bytes {
+        say_large(folder, name, room);
+        return false;
+    }
+    if read.bytes == 0 {
+        say_empty(folder, name);
+        return false;
+    }
+    let stray = plain_text::first_stray(text);
+    if stray < text.len() {
+        say_no_text(folder, name, stray);
+        return false;
+    }
+    true
+}

@@ -1,0 +1,184 @@
+// A folder: its six sheets are read, and then planned.
+use crate::files::is_folder_there;
+use crate::files::is_sheet;
+use crate::tables::plan_sheets;
+use crate::wish::Wish;
+use plain_text::without_mark;
+use sheet_files::read_file;
+use slice_fronts::first_bytes;
+
+// Plans a folder; the answer is whether it could be planned. Where not, one sentence stands on standard error and nothing on standard output.
+pub(crate) fn plan_folder(
+    folder: &[u8],
+    wish: Wish,
+    energies: &mut [f64],
+    notes: &mut [u8],
+    page: &mut [u8],
+) -> bool {
+    if !is_folder_there(folder) {
+        return false;
+    }
+    read_strands(folder, wish, energies, notes, page)
+}
+
+fn read_strands(
+    folder: &[u8],
+    wish: Wish,
+    energies: &mut [f64],
+    notes: &mut [u8],
+    page: &mut [u8],
+) -> bool {
+    let mut room = [0u8; 65536];
+    let read = read_file(folder, b"strands.csv", &mut room);
+    let text = first_bytes(&room, read.bytes);
+    if !is_sheet(folder, b"strands.csv", read, 65536, text) {
+        return false;
+    }
+    read_scaffold(folder, wish, without_mark(text), energies, notes, page)
+}
+
+fn read_scaffold(
+    folder: &[u8],
+    wish: Wish,
+    strands: &[u8],
+    energies: &mut [f64],
+    notes: &mut [u8],
+    page: &mut [u8],
+) -> bool {
+    let mut room = [0u8; 65536];
+    let read = read_file(folder, b"scaffold.csv", &mut room);
+    let text = first_bytes(&room, read.bytes);
+    if !is_sheet(folder, b"scaffold.csv", read, 65536, text) {
+        return false;
+    }
+    read_energies(
+        folder,
+        wish,
+        strands,
+        without_mark(text),
+        energies,
+        notes,
+        page,
+    )
+}
+
+fn read_energies(
+    folder: &[u8],
+    wish: Wish,
+    strands: &[u8],
+    scaffold: &[u8],
+    energies: &mut [f64],
+    notes: &mut [u8],
+    page: &mut [u8],
+) -> bool {
+    let mut room = [0u8; 131072];
+    let read = read_file(folder, b"energies.csv", &mut room);
+    let text = first_bytes(&room, read.bytes);
+    if !is_sheet(folder, b"energies.csv", read, 131072, text) {
+        return false;
+    }
+    read_seeds(
+        folder,
+        wish,
+        strands,
+        scaffold,
+        without_mark(text),
+        energies,
+        notes,
+        page,
+    )
+}
+
+fn read_seeds(
+    folder: &[u8],
+    wish: Wish,
+    strands: &[u8],
+    scaffold: &[u8],
+    keys: &[u8],
+    energies: &mut [f64],
+    notes: &mut [u8],
+    page: &mut [u8],
+) -> bool {
+    let mut room = [0u8; 65536];
+    let read = read_file(folder, b"seeds.csv", &mut room);
+    let text = first_bytes(&room, read.bytes);
+    if !is_sheet(folder, b"seeds.csv", read, 65536, text) {
+        return false;
+    }
+    read_temperature(
+        folder,
+        wish,
+        strands,
+        scaffold,
+        keys,
+        without_mark(text),
+        energies,
+        notes,
+        page,
+    )
+}
+
+fn read_temperature(
+    folder: &[u8],
+    wish: Wish,
+    strands: &[u8],
+    scaffold: &[u8],
+    keys: &[u8],
+    seeds: &[u8],
+    energies: &mut [f64],
+    notes: &mut [u8],
+    page: &mut [u8],
+) -> bool {
+    let mut room = [0u8; 4096];
+    let read = read_file(folder, b"temperature.csv", &mut room);
+    let text = first_bytes(&room, read.bytes);
+    if !is_sheet(folder, b"temperature.csv", read, 4096, text) {
+        return false;
+    }
+    read_constraints(
+        folder,
+        wish,
+        strands,
+        scaffold,
+        keys,
+        seeds,
+        without_mark(text),
+        energies,
+        notes,
+        page,
+    )
+}
+
+// The register's sheet is taken as it is: a byte order mark is an error of its first field.
+fn read_constraints(
+    folder: &[u8],
+    wish: Wish,
+    strands: &[u8],
+    scaffold: &[u8],
+    keys: &[u8],
+    seeds: &[u8],
+    temperature: &[u8],
+    energies: &mut [f64],
+    notes: &mut [u8],
+    page: &mut [u8],
+) -> bool {
+    let mut room = [0u8; 262144];
+    let read = read_file(folder, b"constraints.csv", &mut room);
+    let text = first_bytes(&room, read.bytes);
+    if !is_sheet(folder, b"constraints.csv", read, 262144, text) {
+        return false;
+    }
+    plan_sheets(
+        folder,
+        wish,
+        strands,
+        scaffold,
+        keys,
+        seeds,
+        temperature,
+        text,
+        energies,
+        notes,
+        page,
+    )
+}

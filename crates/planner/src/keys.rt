@@ -1,0 +1,269 @@
+// Energy keys: from their sheet to the two matrices.
+ghost use Prim.Native.Nat.{_≤_};
+use crate::messages::say_field;
+use crate::refusals::say_keys;
+use crate::shapes::is_table;
+use crate::strands::plan_strands;
+use crate::wish::Wish;
+use energy_keys::energy_keys;
+use sheet_keys::check_keys;
+use sheet_keys::put_keys;
+use sheet_records::check_table;
+use slice_fronts::first_bytes;
+use slice_fronts::first_floats;
+use slice_fronts::first_numbers;
+use units::Check;
+use units::Refusal;
+
+// Tests the sheet of keys, and plans on.
+pub(crate) fn plan_keys(
+    folder: &[u8],
+    wish: Wish,
+    strand_sheet: &[u8],
+    keys: &[u8],
+    seed_sheet: &[u8],
+    temperature: &[u8],
+    lists: &[u8],
+    records: usize,
+    rows: usize,
+    cols: usize,
+    count: usize,
+    text: &mut [u8],
+    end: usize,
+    strand_glues: &[u32],
+    scaffold: &[u32],
+    bases: &[usize],
+    energies: &mut [f64],
+    notes: &mut [u8],
+    page: &mut [u8],
+) -> bool
+    requires { ⌜ records ≤ 63 ⌝ }
+{
+    let table = check_table(keys, 5, 2048);
+    if !is_table(
+        folder,
+        b"energies.csv",
+        table,
+        2048,
+        b"there are more than 2048 energy keys, the planner's room; use the library",
+        b"an energy key has 5 fields: a name, a second name or nothing, and either the two numbers or, in the last field, a sequence",
+    ) {
+        return false;
+    }
+    let fault = check_keys(keys, table.records);
+    if fault.line != 0 {
+        say_field(
+            folder,
+            b"energies.csv",
+            fault.line,
+            fault.field,
+            b"a key has a name in field 1, and either two decimals of at most 15 digits in fields 3 and 4 or a sequence in field 5 and nothing in those two",
+        );
+        return false;
+    }
+    plan_matrices(
+        folder,
+        wish,
+        strand_sheet,
+        keys,
+        table.records,
+        seed_sheet,
+        temperature,
+        lists,
+        records,
+        rows,
+        cols,
+        count,
+        text,
+        end,
+        strand_glues,
+        scaffold,
+        bases,
+        energies,
+        notes,
+        page,
+    )
+}
+
+// How many glues there are with so many bases: each, its inverse, and none. More bases than 127 are taken for 127, which refusal 1 follows.
+fn glues_of(count: usize) -> usize
+    ensures { λ r. ⌜ r ≤ 255 ⌝ }
+{
+    if 127 < count {
+        return 255;
+    }
+    count + count + 1
+}
+
+// How many pairs there are of so many glues.
+fn pairs_of(glues: usize) -> usize
+    requires { ⌜ glues ≤ 255 ⌝ }
+    ensures { λ r. ⌜ r ≤ 65025 ⌝ }
+{
+    glues * glues
+}
+
+// Fills the matrices, and plans on.
+fn plan_matrices(
+    folder: &[u8],
+    wish: Wish,
+    strand_sheet: &[u8],
+    keys: &[u8],
+    key_count: usize,
+    seed_sheet: &[u8],
+    temperature: &[u8],
+    lists: &[u8],
+    records: usize,
+    rows: usize,
+    cols: usize,
+    count: usize,
+    text: &mut [u8],
+    end: usize,
+    strand_glues: &[u32],
+    scaffold: &[u32],
+    bases: &[usize],
+    energies: &mut [f64],
+    notes: &mut [u8],
+    page: &mut [u8],
+) -> bool
+    requires { ⌜ (records ≤ 63) × («key_count» ≤ 2048) ⌝ }
+{
+    let mut delta_g = [0.0f64; 65025];
+    let mut entropy = [0.0f64; 65025];
+    let glues = glues_of(count);
+    let pairs = pairs_of(glues);
+    match fill_matrices(
+        keys,
+        key_count,
+        text,
+        end,
+        bases,
+        count,
+        pairs,
+        &mut delta_g,
+        &mut entropy,
+    ) {
+        Check::Refused(r) => {
+            say_keys(folder, r, keys, key_count);
+            return false;
+        }
+        Check::Passed => (),
+    }
+    plan_strands(
+        folder,
+        wish,
+        strand_sheet,
+        seed_sheet,
+        temperature,
+        lists,
+        records,
+        rows,
+        cols,
+        glues,
+        strand_glues,
+        scaffold,
+        first_floats(&delta_g, pairs),
+        first_floats(&entropy, pairs),
+        energies,
+        notes,
+        page,
+    )
+}
+
+// Reads the keys into tables, and fills the matrices from them.
+fn fill_matrices(
+    keys: &[u8],
+    records: usize,
+    text: &mut [u8],
+    end: usize,
+    bases: &[usize],
+    count: usize,
+    pairs: usize,
+    delta_g: &mut [f64],
+    entropy: &mut [f64],
+) -> Check
+    requires { ⌜ records ≤ 2048 ⌝ }
+{
+    if text.len() < end {
+        return refused();
+    }
+    let mut offsets = [0usize; 4097];
+    let mut present = [0u8; 4096];
+    let mut paired = [0u8; 2048];
+    let mut kinds = [0u8; 2048];
+    let mut numbers = [0.0f64; 4096];
+    let mut sequences = [0u8; 131072];
+    let mut sequence_offsets = [0usize; 2049];
+    let texts = put_keys(
+        keys,
+        records,
+        text,
+        end,
+        &mut offsets,
+        &mut present,
+        &mut paired,
+        &mut kinds,
+        &mut numbers,
+        &mut sequences,
+        &mut sequence_offsets,
+    );
+    matrices_lent(
+        first_bytes(text, texts.names),
+        first_numbers(&offsets, records + records + 1),
+        first_bytes(&paired, records),
+        first_bytes(&kinds, records),
+        first_floats(&numbers, records + records),
+        first_bytes(&sequences, texts.sequences),
+        first_numbers(&sequence_offsets, records + 1),
+        bases,
+        count,
+        pairs,
+        delta_g,
+        entropy,
+    )
+}
+
+// Refusal 1.
+fn refused() -> Check {
+    Check::Refused(Refusal {
+        number: 1,
+        first: 0,
+        second: 0,
+    })
+}
+
+// Lends as much of the matrices as the bases ask for.
+fn matrices_lent(
+    text: &[u8],
+    offsets: &[usize],
+    paired: &[u8],
+    kinds: &[u8],
+    numbers: &[f64],
+    sequences: &[u8],
+    sequence_offsets: &[usize],
+    bases: &[usize],
+    count: usize,
+    pairs: usize,
+    delta_g: &mut [f64],
+    entropy: &mut [f64],
+) -> Check {
+    if delta_g.len() < pairs {
+        return refused();
+    }
+    if entropy.len() < pairs {
+        return refused();
+    }
+    energy_keys(
+        text,
+        offsets,
+        paired,
+        kinds,
+        numbers,
+        sequences,
+        sequence_offsets,
+        bases,
+        count,
+        &mut delta_g[..pairs],
+        &mut entropy[..pairs],
+    )
+}

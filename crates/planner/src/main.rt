@@ -1,0 +1,132 @@
+// Plans folders of sheets: the layout of least energy of each, and why every bay holds what it holds.
+mod drawing;
+mod files;
+mod folder;
+mod grid;
+mod keys;
+mod lent;
+mod lists;
+mod messages;
+mod numbers;
+mod outcome;
+mod reasons;
+mod refusals;
+mod seeds;
+mod shapes;
+mod standard;
+mod strands;
+mod summary;
+mod tables;
+mod unplanned;
+mod usage;
+mod why;
+mod wish;
+mod words;
+
+use crate::folder::plan_folder;
+use crate::messages::put_with;
+use crate::usage::is_usable;
+use crate::usage::write_help;
+use crate::wish::Wish;
+use crate::wish::asked_for;
+use crate::words::folders;
+use crate::words::is_folder;
+use crate::words::is_there;
+use answer_texts::put_text;
+use slice_fronts::first_bytes;
+
+// Says which folder is planned now.
+fn write_progress(folder: &[u8], number: usize, count: usize) {
+    let mut line = [0u8; 8192];
+    let first = put_with(&mut line, 0, b"planning ", number);
+    let second = put_with(&mut line, first, b" of ", count);
+    let colon = put_text(&mut line, second, b": ");
+    let name = put_text(&mut line, colon, folder);
+    let end = put_text(&mut line, name, b"\n");
+    io::write_all(2, first_bytes(&line, end));
+}
+
+// Plans the folder that the word at a place names.
+fn plan_word(
+    place: usize,
+    number: usize,
+    count: usize,
+    wish: Wish,
+    energies: &mut [f64],
+    notes: &mut [u8],
+    page: &mut [u8],
+) -> bool {
+    let mut room = io::buffer();
+    let n = os::arg(place, &mut room);
+    let folder = first_bytes(&room, n);
+    if is_there(b"--progress") {
+        write_progress(folder, number, count);
+    }
+    plan_folder(folder, wish, energies, notes, page)
+}
+
+// Plans one folder after the other; the answer is how many could not be planned.
+fn plan_words(
+    wish: Wish,
+    count: usize,
+    energies: &mut [f64],
+    notes: &mut [u8],
+    page: &mut [u8],
+) -> usize {
+    let words = os::arg_count();
+    let mut number = 0;
+    let mut failed = 0;
+    let mut i = 1;
+    while i < words {
+        if is_folder(i) {
+            number += 1;
+            if !plan_word(i, number, count, wish, energies, notes, page) {
+                failed += 1;
+            }
+        }
+        i += 1;
+    }
+    failed
+}
+
+// The ledger and the page are lent as whole arrays.
+fn plan_all(
+    wish: Wish,
+    count: usize,
+    energies: &mut [f64; 480000],
+    notes: &mut [u8; 480000],
+    page: &mut [u8; 524288],
+) -> usize {
+    plan_words(wish, count, energies, notes, page)
+}
+
+// Makes the ledger and the page, and plans every folder.
+fn plan() -> usize {
+    let count = folders();
+    let mut energies = [0.0f64; 480000];
+    let mut notes = [0u8; 480000];
+    let mut page = [0u8; 524288];
+    plan_all(asked_for(count), count, &mut energies, &mut notes, &mut page)
+}
+
+// Tells on descriptor 3 that all went well, where that is asked for.
+fn tell() {
+    if is_there(b"--outcome") {
+        io::write_all(3, b"planned\n");
+    }
+}
+
+fn main() {
+    if is_there(b"--help") {
+        if write_help() {
+            tell();
+        }
+        return;
+    }
+    if !is_usable() {
+        return;
+    }
+    if plan() == 0 {
+        tell();
+    }
+}

@@ -1,0 +1,64 @@
+// Standard output, and the texts that several reports share.
+use crate::messages::say;
+use answer_texts::put_float;
+use answer_texts::put_text;
+use bay_names::name_of;
+use energy_text::put_energy;
+use slice_fronts::first_bytes;
+
+// Two digits for each strand without a name, as document 01's numerals text has them.
+pub(crate) const NUMERALS: [u8; 126] =
+    *b"000102030405060708091011121314151617181920212223242526272829303132333435363738394041424344454647484950515253545556575859606162";
+
+// Writes the front of a text to standard output.
+pub(crate) fn write_front(folder: &[u8], text: &[u8], end: usize) -> bool {
+    if io::write_all(1, first_bytes(text, end)) {
+        return true;
+    }
+    say(folder, b"standard output cannot be written");
+    false
+}
+
+// An energy in kcal/mol, and its bits where they are asked for.
+pub(crate) fn put_kcal(out: &mut [u8], at: usize, exact: bool, energy: f64) -> usize {
+    let number = put_energy(out, at, energy);
+    let unit = put_text(out, number, b" kcal/mol");
+    if !exact {
+        return unit;
+    }
+    let word = put_text(out, unit, b", bits ");
+    put_float(out, word, energy)
+}
+
+// What a strand is called.
+pub(crate) fn put_strand(
+    out: &mut [u8],
+    at: usize,
+    text: &[u8],
+    name_offsets: &[usize],
+    present: &[u8],
+    strand: u32,
+) -> usize {
+    if strand == 0 {
+        return put_text(out, at, b"empty");
+    }
+    put_text(
+        out,
+        at,
+        name_of(text, name_offsets, present, &NUMERALS, strand),
+    )
+}
+
+// The reason of a bay, by its mark.
+pub(crate) fn put_mark(out: &mut [u8], at: usize, mark: u8) -> usize {
+    if mark == 1 {
+        return put_text(out, at, b"restricted by a list");
+    }
+    if mark == 2 {
+        return put_text(out, at, b"seeded");
+    }
+    if mark == 3 {
+        return put_text(out, at, b"kept empty by a list of 0");
+    }
+    put_text(out, at, b"free")
+}
