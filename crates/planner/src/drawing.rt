@@ -38,7 +38,10 @@ pub(crate) fn draw(
         0,
     );
     if page.len() <= end {
-        say(folder, b"the drawing takes more than 524287 bytes, the planner's room");
+        say(
+            folder,
+            b"the drawing takes more than 524287 bytes, the planner's room",
+        );
         return false;
     }
     let mut file = io::buffer();

@@ -35,7 +35,12 @@ fn say_large(folder: &[u8], name: &[u8], room: usize) {
     let mut line = [0u8; 8192];
     let at = begin(&mut line, folder);
     let next = put_text(&mut line, at, name);
-    let end = put_with(&mut line, next, b" has as many bytes as the planner's room for it or more, ", room);
+    let end = put_with(
+        &mut line,
+        next,
+        b" has as many bytes as the planner's room for it or more, ",
+        room,
+    );
     finish(&mut line, end, b"; make it smaller, or use the library");
 }
 
@@ -65,7 +70,13 @@ fn say_no_text(folder: &[u8], name: &[u8], place: usize) {
 }
 
 // Whether a file could be read, fits its room, has bytes and is text; where not, a sentence says so.
-pub(crate) fn is_sheet(folder: &[u8], name: &[u8], read: FileRead, room: usize, text: &[u8]) -> bool {
+pub(crate) fn is_sheet(
+    folder: &[u8],
+    name: &[u8],
+    read: FileRead,
+    room: usize,
+    text: &[u8],
+) -> bool {
     if !read.opened {
         say_missing(folder, name);
         return false;

@@ -1,14 +1,17 @@
 // Energy keys: from their sheet to the two matrices.
 ghost use Prim.Native.Nat.{_≤_};
+ghost use lib.ListN.{length};
 use crate::messages::say_field;
+use crate::messages::times;
 use crate::refusals::say_keys;
 use crate::shapes::is_table;
+use crate::shapes::table_of;
 use crate::strands::plan_strands;
 use crate::wish::Wish;
 use energy_keys::energy_keys;
+use sheet_keys::KeyTexts;
 use sheet_keys::check_keys;
 use sheet_keys::put_keys;
-use sheet_records::check_table;
 use slice_fronts::first_bytes;
 use slice_fronts::first_floats;
 use slice_fronts::first_numbers;
@@ -39,7 +42,7 @@ pub(crate) fn plan_keys(
 ) -> bool
     requires { ⌜ records ≤ 63 ⌝ }
 {
-    let table = check_table(keys, 5, 2048);
+    let table = table_of(keys, 5, 2048);
     if !is_table(
         folder,
         b"energies.csv",
@@ -95,14 +98,6 @@ fn glues_of(count: usize) -> usize
     count + count + 1
 }
 
-// How many pairs there are of so many glues.
-fn pairs_of(glues: usize) -> usize
-    requires { ⌜ glues ≤ 255 ⌝ }
-    ensures { λ r. ⌜ r ≤ 65025 ⌝ }
-{
-    glues * glues
-}
-
 // Fills the matrices, and plans on.
 fn plan_matrices(
     folder: &[u8],
@@ -131,7 +126,7 @@ fn plan_matrices(
     let mut delta_g = [0.0f64; 65025];
     let mut entropy = [0.0f64; 65025];
     let glues = glues_of(count);
-    let pairs = pairs_of(glues);
+    let pairs = times(glues, glues);
     match fill_matrices(
         keys,
         key_count,
@@ -194,7 +189,7 @@ fn fill_matrices(
     let mut numbers = [0.0f64; 4096];
     let mut sequences = [0u8; 131072];
     let mut sequence_offsets = [0usize; 2049];
-    let texts = put_keys(
+    let texts = read_keys(
         keys,
         records,
         text,
@@ -207,14 +202,87 @@ fn fill_matrices(
         &mut sequences,
         &mut sequence_offsets,
     );
+    matrices_of(
+        records,
+        texts,
+        text,
+        &offsets,
+        &paired,
+        &kinds,
+        &numbers,
+        &sequences,
+        &sequence_offsets,
+        bases,
+        count,
+        pairs,
+        delta_g,
+        entropy,
+    )
+}
+
+// Reads the keys into tables that have room for 2048.
+fn read_keys(
+    keys: &[u8],
+    records: usize,
+    text: &mut [u8],
+    end: usize,
+    offsets: &mut [usize],
+    present: &mut [u8],
+    paired: &mut [u8],
+    kinds: &mut [u8],
+    numbers: &mut [f64],
+    sequences: &mut [u8],
+    sequence_offsets: &mut [usize],
+) -> KeyTexts
+    requires { ⌜ (records ≤ 2048) × (end ≤ length (now text)) ⌝ }
+    requires { ⌜ (4097 ≤ length (now offsets)) × (4096 ≤ length (now present)) × (2048 ≤ length (now paired)) × (2048 ≤ length (now kinds)) ⌝ }
+    requires { ⌜ (4096 ≤ length (now numbers)) × (2049 ≤ length (now «sequence_offsets»)) ⌝ }
+{
+    put_keys(
+        keys,
+        records,
+        text,
+        end,
+        offsets,
+        present,
+        paired,
+        kinds,
+        numbers,
+        sequences,
+        sequence_offsets,
+    )
+}
+
+// Fills the matrices from as much of the tables as was read.
+fn matrices_of(
+    records: usize,
+    texts: KeyTexts,
+    text: &[u8],
+    offsets: &[usize],
+    paired: &[u8],
+    kinds: &[u8],
+    numbers: &[f64],
+    sequences: &[u8],
+    sequence_offsets: &[usize],
+    bases: &[usize],
+    count: usize,
+    pairs: usize,
+    delta_g: &mut [f64],
+    entropy: &mut [f64],
+) -> Check
+    requires { ⌜ records ≤ 2048 ⌝ }
+{
+    let names = 2 * records;
+    let after_names = 2 * records + 1;
+    let after_keys = records + 1;
     matrices_lent(
         first_bytes(text, texts.names),
-        first_numbers(&offsets, records + records + 1),
-        first_bytes(&paired, records),
-        first_bytes(&kinds, records),
-        first_floats(&numbers, records + records),
-        first_bytes(&sequences, texts.sequences),
-        first_numbers(&sequence_offsets, records + 1),
+        first_numbers(offsets, after_names),
+        first_bytes(paired, records),
+        first_bytes(kinds, records),
+        first_floats(numbers, names),
+        first_bytes(sequences, texts.sequences),
+        first_numbers(sequence_offsets, after_keys),
         bases,
         count,
         pairs,
@@ -263,7 +331,7 @@ fn matrices_lent(
         sequence_offsets,
         bases,
         count,
-        &mut delta_g[..pairs],
-        &mut entropy[..pairs],
+        &mut delta_g[0..pairs],
+        &mut entropy[0..pairs],
     )
 }

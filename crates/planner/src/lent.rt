@@ -49,7 +49,7 @@ pub(crate) fn run_lent(
         true,
         offsets,
         tiles,
-        &mut layout[..bays],
+        &mut layout[0..bays],
         energies,
         notes,
     )
@@ -95,9 +95,9 @@ pub(crate) fn choice_lent(
         tiles,
         bay,
         strand,
-        &mut new_offsets[..places],
+        &mut new_offsets[0..places],
         new_tiles,
-        &mut layout[..bays],
+        &mut layout[0..bays],
         energies,
         notes,
     )
@@ -131,7 +131,7 @@ pub(crate) fn marks_lent(
         true,
         offsets,
         tiles,
-        &mut marks[..bays],
+        &mut marks[0..bays],
     )
 }
 
@@ -163,7 +163,7 @@ pub(crate) fn sets_lent(
         true,
         offsets,
         tiles,
-        &mut sets[..bays],
+        &mut sets[0..bays],
     )
 }
 
@@ -197,6 +197,6 @@ pub(crate) fn rules_lent(
         offsets,
         tiles,
         bay,
-        &mut rules[..strands],
+        &mut rules[0..strands],
     )
 }

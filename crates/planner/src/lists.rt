@@ -32,7 +32,7 @@ fn read_lists(
             second: 0,
         });
     }
-    read_sheet(rows, cols, lists, &mut offsets[..places], tiles)
+    read_sheet(rows, cols, lists, &mut offsets[0..places], tiles)
 }
 
 // Whether the bay that is asked about, if one is, lies on the grid.
@@ -50,7 +50,12 @@ fn is_on_grid(wish: Wish, rows: usize, cols: usize) -> bool {
 fn say_off_grid(folder: &[u8], rows: usize, cols: usize) {
     let mut line = [0u8; 8192];
     let at = begin(&mut line, folder);
-    let high = put_with(&mut line, at, b"--why asks about a bay off the grid, which has rows 1 to ", rows);
+    let high = put_with(
+        &mut line,
+        at,
+        b"--why asks about a bay off the grid, which has rows 1 to ",
+        rows,
+    );
     let end = put_with(&mut line, high, b" and columns 1 to ", cols);
     finish(&mut line, end, b"");
 }

@@ -23,6 +23,7 @@ mod why;
 mod wish;
 mod words;
 
+ghost use Prim.Native.Nat.{_≤_};
 use crate::folder::plan_folder;
 use crate::messages::put_with;
 use crate::usage::is_usable;
@@ -30,6 +31,7 @@ use crate::usage::write_help;
 use crate::wish::Wish;
 use crate::wish::asked_for;
 use crate::words::folders;
+use crate::words::folders_at;
 use crate::words::is_folder;
 use crate::words::is_there;
 use answer_texts::put_text;
@@ -65,6 +67,27 @@ fn plan_word(
     plan_folder(folder, wish, energies, notes, page)
 }
 
+// How many of the folders that a word names, 0 or 1, could not be planned.
+fn failures_at(
+    place: usize,
+    number: usize,
+    count: usize,
+    wish: Wish,
+    energies: &mut [f64],
+    notes: &mut [u8],
+    page: &mut [u8],
+) -> usize
+    ensures { λ r. ⌜ r ≤ 1 ⌝ }
+{
+    if !is_folder(place) {
+        return 0;
+    }
+    if plan_word(place, number, count, wish, energies, notes, page) {
+        return 0;
+    }
+    1
+}
+
 // Plans one folder after the other; the answer is how many could not be planned.
 fn plan_words(
     wish: Wish,
@@ -78,12 +101,8 @@ fn plan_words(
     let mut failed = 0;
     let mut i = 1;
     while i < words {
-        if is_folder(i) {
-            number += 1;
-            if !plan_word(i, number, count, wish, energies, notes, page) {
-                failed += 1;
-            }
-        }
+        number += folders_at(i);
+        failed += failures_at(i, number, count, wish, energies, notes, page);
         i += 1;
     }
     failed
@@ -106,7 +125,13 @@ fn plan() -> usize {
     let mut energies = [0.0f64; 480000];
     let mut notes = [0u8; 480000];
     let mut page = [0u8; 524288];
-    plan_all(asked_for(count), count, &mut energies, &mut notes, &mut page)
+    plan_all(
+        asked_for(count),
+        count,
+        &mut energies,
+        &mut notes,
+        &mut page,
+    )
 }
 
 // Tells on descriptor 3 that all went well, where that is asked for.

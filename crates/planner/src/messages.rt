@@ -1,4 +1,5 @@
 // Sentences on standard error. Each begins with the folder that it is about and ends its line.
+ghost use Prim.Native.Nat.{_≤_};
 use answer_texts::put_number;
 use answer_texts::put_text;
 use slice_fronts::first_bytes;
@@ -60,6 +61,14 @@ pub(crate) fn after(n: usize) -> usize {
         return n + 1;
     }
     n
+}
+
+// The product of two sizes.
+pub(crate) fn times(a: usize, b: usize) -> usize
+    requires { ⌜ (a ≤ 255) × (b ≤ 255) ⌝ }
+    ensures { λ r. ⌜ r ≤ 65025 ⌝ }
+{
+    a * b
 }
 
 // A sheet's line and field, both from 1.

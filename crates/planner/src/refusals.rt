@@ -160,18 +160,18 @@ fn is_sequence(keys: &[u8], at: usize) -> bool {
 }
 
 // Says what the seeds refused: 4 by the place that is off the grid, 18 by the name.
-pub(crate) fn say_seeds(
-    folder: &[u8],
-    r: Refusal,
-    rows: usize,
-    cols: usize,
-) {
+pub(crate) fn say_seeds(folder: &[u8], r: Refusal, rows: usize, cols: usize) {
     let mut line = [0u8; 8192];
     let at = begin(&mut line, folder);
     let number = put_with(&mut line, at, b"refusal ", r.number as usize);
     if r.number == 4 {
         let seed = put_with(&mut line, number, b": seeds.csv, line ", after(r.first));
-        let rows_end = put_with(&mut line, seed, b": the bay is off the grid, which has rows 1 to ", rows);
+        let rows_end = put_with(
+            &mut line,
+            seed,
+            b": the bay is off the grid, which has rows 1 to ",
+            rows,
+        );
         let cols_end = put_with(&mut line, rows_end, b" and columns 1 to ", cols);
         let end = put_with(&mut line, cols_end, b" (seed ", r.first);
         return finish(&mut line, end, b" counted from 0)");

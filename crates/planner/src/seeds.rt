@@ -1,11 +1,13 @@
 // The seeds, which are given by name, and the temperature.
 ghost use Prim.Native.Nat.{_≤_};
+ghost use lib.ListN.{length};
 use crate::lists::plan_lists;
 use crate::messages::begin;
 use crate::messages::finish;
 use crate::messages::say_field;
 use crate::refusals::say_seeds;
 use crate::shapes::is_table;
+use crate::shapes::table_of;
 use crate::standard::NUMERALS;
 use crate::wish::Wish;
 use crate::words::same;
@@ -14,7 +16,7 @@ use named_seeds::seeds_by_name;
 use sdc2d::Sizes;
 use sheet_names::put_content;
 use sheet_numbers::put_decimals;
-use sheet_records::check_table;
+use sheet_seeds::PlaceFault;
 use sheet_seeds::put_places;
 use sheet_seeds::put_seed_names;
 use slice_fronts::first_bytes;
@@ -25,7 +27,7 @@ use units::Refusal;
 
 // Whether a sheet is the one word `none`.
 fn is_none(sheet: &[u8]) -> bool {
-    if check_table(sheet, 1, 1).records != 1 {
+    if table_of(sheet, 1, 1).records != 1 {
         return false;
     }
     let mut word = [0u8; 8];
@@ -123,7 +125,7 @@ fn read_seeds(
     if is_none(seed_sheet) {
         return no_seeds(true);
     }
-    let table = check_table(seed_sheet, 3, 1024);
+    let table = table_of(seed_sheet, 3, 1024);
     if !is_table(
         folder,
         b"seeds.csv",
@@ -148,6 +150,26 @@ fn read_seeds(
     )
 }
 
+// Reads the places into a table that has room for 1024.
+fn read_places(seed_sheet: &[u8], count: usize, places: &mut [usize]) -> PlaceFault
+    requires { ⌜ (count ≤ 1024) × (2048 ≤ length (now places)) ⌝ }
+{
+    put_places(seed_sheet, count, places)
+}
+
+// Reads the names into tables that have room for 1024.
+fn read_names(
+    seed_sheet: &[u8],
+    count: usize,
+    text: &mut [u8],
+    offsets: &mut [usize],
+    present: &mut [u8],
+) -> usize
+    requires { ⌜ (count ≤ 1024) × (1025 ≤ length (now offsets)) × (1024 ≤ length (now present)) ⌝ }
+{
+    put_seed_names(seed_sheet, count, text, offsets, present)
+}
+
 // Reads so many seeds.
 fn seeds_of(
     folder: &[u8],
@@ -163,8 +185,10 @@ fn seeds_of(
 ) -> SeedsRead
     requires { ⌜ count ≤ 1024 ⌝ }
 {
+    let pairs = 2 * count;
+    let triples = 3 * count;
     let mut places = [0usize; 2048];
-    let fault = put_places(seed_sheet, count, &mut places);
+    let fault = read_places(seed_sheet, count, &mut places);
     if fault.line != 0 {
         say_field(
             folder,
@@ -178,7 +202,7 @@ fn seeds_of(
     let mut names = [0u8; 16385];
     let mut name_offsets = [0usize; 1025];
     let mut named = [0u8; 1024];
-    let end = put_seed_names(seed_sheet, count, &mut names, &mut name_offsets, &mut named);
+    let end = read_names(seed_sheet, count, &mut names, &mut name_offsets, &mut named);
     match triples_lent(
         rows,
         cols,
@@ -186,10 +210,10 @@ fn seeds_of(
         text,
         offsets,
         present,
-        first_numbers(&places, count + count),
+        first_numbers(&places, pairs),
         first_bytes(&names, end),
         first_numbers(&name_offsets, count + 1),
-        3 * count,
+        triples,
         seeds,
     ) {
         Check::Refused(r) => {
@@ -198,7 +222,7 @@ fn seeds_of(
         }
         Check::Passed => SeedsRead {
             sound: true,
-            numbers: 3 * count,
+            numbers: triples,
         },
     }
 }
@@ -235,7 +259,7 @@ fn triples_lent(
         places,
         names,
         name_offsets,
-        &mut seeds[..numbers],
+        &mut seeds[0..numbers],
     )
 }
 
@@ -262,7 +286,7 @@ fn plan_temperature(
     notes: &mut [u8],
     page: &mut [u8],
 ) -> bool {
-    let table = check_table(temperature, 1, 1);
+    let table = table_of(temperature, 1, 1);
     if !is_table(
         folder,
         b"temperature.csv",

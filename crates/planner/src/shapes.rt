@@ -1,10 +1,20 @@
 // Whether a sheet is a table, and what is said where it is none.
+ghost use Prim.Native.Nat.{_^_, _≤_, _<_};
 use crate::messages::begin;
 use crate::messages::finish;
 use crate::messages::put_with;
 use crate::messages::say_field;
 use answer_texts::put_text;
 use sheet_records::TableCheck;
+use sheet_records::check_table;
+
+// Tests a sheet whose records have so many fields, and of which there are at most so many.
+pub(crate) fn table_of(sheet: &[u8], width: usize, most: usize) -> TableCheck
+    requires { ⌜ (width < 2 ^ 32) × (most < 2 ^ 32) ⌝ }
+    ensures { λ r. ⌜ r .records ≤ most ⌝ }
+{
+    check_table(sheet, width, most)
+}
 
 // Whether a sheet has records, all of them of the right number of fields, and no more than `most`; where not, a sentence says so.
 pub(crate) fn is_table(

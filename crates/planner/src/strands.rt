@@ -1,5 +1,6 @@
 // The names of the strands and their logarithms.
 ghost use Prim.Native.Nat.{_≤_};
+ghost use lib.ListN.{length};
 use crate::messages::say;
 use crate::messages::say_field;
 use crate::seeds::plan_seeds;
@@ -9,6 +10,26 @@ use sheet_strands::put_names;
 use slice_fronts::first_bytes;
 use slice_fronts::first_floats;
 use slice_fronts::first_numbers;
+
+// Reads the names into tables that have room for 64.
+fn read_names(
+    strand_sheet: &[u8],
+    records: usize,
+    text: &mut [u8],
+    offsets: &mut [usize],
+    present: &mut [u8],
+) -> usize
+    requires { ⌜ (records ≤ 63) × (65 ≤ length (now offsets)) × (64 ≤ length (now present)) ⌝ }
+{
+    put_names(strand_sheet, records, text, offsets, present)
+}
+
+// Reads the logarithms into a table that has room for 64.
+fn read_logs(strand_sheet: &[u8], records: usize, logs: &mut [f64]) -> usize
+    requires { ⌜ (records ≤ 63) × (64 ≤ length (now logs)) ⌝ }
+{
+    put_logs(strand_sheet, records, logs)
+}
 
 // Reads the strands' own fields, and plans on.
 pub(crate) fn plan_strands(
@@ -36,13 +57,16 @@ pub(crate) fn plan_strands(
     let mut text = [0u8; 16385];
     let mut offsets = [0usize; 65];
     let mut present = [0u8; 64];
-    let end = put_names(strand_sheet, records, &mut text, &mut offsets, &mut present);
+    let end = read_names(strand_sheet, records, &mut text, &mut offsets, &mut present);
     if 16384 < end {
-        say(folder, b"refusal 1: strands.csv: the names of the strands take more than 16384 bytes; shorten them");
+        say(
+            folder,
+            b"refusal 1: strands.csv: the names of the strands take more than 16384 bytes; shorten them",
+        );
         return false;
     }
     let mut logs = [0.0f64; 64];
-    let line = put_logs(strand_sheet, records, &mut logs);
+    let line = read_logs(strand_sheet, records, &mut logs);
     if line != 0 {
         say_field(
             folder,

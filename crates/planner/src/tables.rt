@@ -5,10 +5,10 @@ use crate::keys::plan_keys;
 use crate::messages::say;
 use crate::refusals::say_registering;
 use crate::shapes::is_table;
+use crate::shapes::table_of;
 use crate::wish::Wish;
 use sheet_glues::register_sheets;
 use sheet_records::first_width;
-use sheet_records::check_table;
 use units::CountAnswer;
 
 // Plans a folder's sheets.
@@ -25,7 +25,7 @@ pub(crate) fn plan_sheets(
     notes: &mut [u8],
     page: &mut [u8],
 ) -> bool {
-    let strands = check_table(strand_sheet, 7, 63);
+    let strands = table_of(strand_sheet, 7, 63);
     if !is_table(
         folder,
         b"strands.csv",
@@ -38,10 +38,13 @@ pub(crate) fn plan_sheets(
     }
     let cols = first_width(scaffold_sheet);
     if 32 < cols {
-        say(folder, b"refusal 1: scaffold.csv has more than 32 columns; a grid has at most 32");
+        say(
+            folder,
+            b"refusal 1: scaffold.csv has more than 32 columns; a grid has at most 32",
+        );
         return false;
     }
-    let grid = check_table(scaffold_sheet, cols, 32);
+    let grid = table_of(scaffold_sheet, cols, 32);
     if !is_table(
         folder,
         b"scaffold.csv",
@@ -97,8 +100,8 @@ fn register_into(
         text,
         offsets,
         present,
-        &mut strand_glues[..records * 5 + 5],
-        &mut scaffold[..rows * cols],
+        &mut strand_glues[0..records * 5 + 5],
+        &mut scaffold[0..rows * cols],
         bases,
     )
 }

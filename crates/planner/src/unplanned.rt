@@ -120,6 +120,9 @@ fn say_no_strand(
 
 // The list of a bay, empty where the offsets name none.
 fn list_of<'a>(offsets: &[usize], tiles: &'a [u32], bay: usize) -> &'a [u32] {
+    if offsets.len() <= bay {
+        return &tiles[..0];
+    }
     let next = after(bay);
     if offsets.len() <= next {
         return &tiles[..0];
@@ -144,12 +147,17 @@ fn put_list(line: &mut [u8], at: usize, list: &[u32], rules: &[u8]) -> usize {
     put_left_out(line, reasons, rules)
 }
 
+// A number behind a space.
+fn put_one(line: &mut [u8], at: usize, number: u32) -> usize {
+    put_with(line, at, b" ", number as usize)
+}
+
 // Numbers, each behind a space.
 fn put_numbers(line: &mut [u8], at: usize, list: &[u32]) -> usize {
     let mut next = at;
     let mut i = 0;
     while i < list.len() {
-        next = put_with(line, next, b" ", list[i] as usize);
+        next = put_one(line, next, list[i]);
         i += 1;
     }
     next
@@ -169,14 +177,15 @@ fn put_reasons(line: &mut [u8], at: usize, list: &[u32], rules: &[u8]) -> usize 
     let mut next = at;
     let mut i = 0;
     while i < list.len() {
-        next = put_reason(line, next, list[i] as usize, rules);
+        next = put_reason(line, next, list[i], rules);
         i += 1;
     }
     next
 }
 
 // Why a number does not help.
-fn put_reason(line: &mut [u8], at: usize, strand: usize, rules: &[u8]) -> usize {
+fn put_reason(line: &mut [u8], at: usize, tile: u32, rules: &[u8]) -> usize {
+    let strand = tile as usize;
     if rules.len() <= strand {
         return put_with(line, at, b", and there is no strand ", strand);
     }

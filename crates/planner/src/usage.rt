@@ -48,7 +48,10 @@ fn say_word(fault: WordFault) {
     if fault.fault == 2 {
         return say(word, b"there is no such option; --help has them all");
     }
-    say(word, b"this option takes a value behind it, as --why 2,3 or --svg layout.svg");
+    say(
+        word,
+        b"this option takes a value behind it, as --why 2,3 or --svg layout.svg",
+    );
 }
 
 // Whether options that go with one folder have one.
@@ -77,11 +80,17 @@ fn is_bay_named(count: usize) -> bool {
         return true;
     }
     if asked.sheet {
-        say(b"--why", b"this does not go with --sheet, which writes a sheet and nothing else");
+        say(
+            b"--why",
+            b"this does not go with --sheet, which writes a sheet and nothing else",
+        );
         return false;
     }
     if asked.row == 0 || asked.column == 0 {
-        say(b"--why", b"name a bay by its row and column from 1, as --why 2,3");
+        say(
+            b"--why",
+            b"name a bay by its row and column from 1, as --why 2,3",
+        );
         return false;
     }
     true

@@ -1,8 +1,10 @@
 // One bay, strand by strand: which rule forbids it there, or the least energy of a layout that has it there.
+ghost use Prim.Native.Nat.{_≤_};
 use crate::lent::choice_lent;
 use crate::lent::rules_lent;
 use crate::messages::put_bay;
 use crate::messages::put_with;
+use crate::messages::times;
 use crate::refusals::say_tables;
 use crate::standard::put_kcal;
 use crate::standard::put_strand;
@@ -16,10 +18,23 @@ use units::EnergyAnswer;
 
 // The bay of a row and a column, both from 1. Past the limits of a grid it is none of its bays.
 fn bay_at(row: usize, column: usize, cols: usize) -> usize {
-    if row < 1 || column < 1 || 32 < row || 32 < column || 32 < cols {
+    if 32 < cols {
         return 1024;
     }
-    (row - 1) * cols + (column - 1)
+    times(from_zero(row), cols) + from_zero(column)
+}
+
+// A row or column from 1, counted from 0; one past the limit of 32 is taken for 33.
+fn from_zero(count: usize) -> usize
+    ensures { λ r. ⌜ r ≤ 32 ⌝ }
+{
+    if count == 0 {
+        return 0;
+    }
+    if 32 < count {
+        return 32;
+    }
+    count - 1
 }
 
 // Writes what is to be said of the bay that is asked about.
@@ -97,7 +112,7 @@ fn write_head(folder: &[u8], bay: usize, cols: usize) -> bool {
     write_front(folder, &line, end)
 }
 
-// Writes a line for each strand.
+// Writes a line for each strand, of which there are as many as rules.
 fn write_strands(
     folder: &[u8],
     exact: bool,
@@ -118,11 +133,8 @@ fn write_strands(
     energies: &mut [f64],
     notes: &mut [u8],
 ) -> bool {
-    let mut new_offsets = [0usize; 1025];
-    let mut new_tiles = [0u32; 65537];
-    let mut layout = [0u32; 1024];
     let mut strand = 0;
-    while strand < rules.len() {
+    while strand < 64 {
         if !write_strand(
             folder,
             exact,
@@ -139,11 +151,8 @@ fn write_strands(
             name_offsets,
             present,
             bay,
-            strand as u32,
-            rules[strand],
-            &mut new_offsets,
-            &mut new_tiles,
-            &mut layout,
+            strand,
+            rules,
             energies,
             notes,
         ) {
@@ -154,7 +163,7 @@ fn write_strands(
     true
 }
 
-// Writes the line of a strand: the rule that forbids it, or its price.
+// Writes the line of a strand, if there is one with this number: the rule that forbids it, or its price.
 fn write_strand(
     folder: &[u8],
     exact: bool,
@@ -171,24 +180,26 @@ fn write_strand(
     name_offsets: &[usize],
     present: &[u8],
     bay: usize,
-    strand: u32,
-    rule: u8,
-    new_offsets: &mut [usize],
-    new_tiles: &mut [u32],
-    layout: &mut [u32],
+    number: usize,
+    rules: &[u8],
     energies: &mut [f64],
     notes: &mut [u8],
 ) -> bool {
+    if rules.len() <= number {
+        return true;
+    }
+    let rule = rules[number];
+    let strand = tile_of(number);
     let mut line = [0u8; 20480];
-    let number = put_with(&mut line, 0, b"  strand ", strand as usize);
-    let space = put_text(&mut line, number, b", ");
+    let word = put_with(&mut line, 0, b"  strand ", number);
+    let space = put_text(&mut line, word, b", ");
     let name = put_strand(&mut line, space, text, name_offsets, present, strand);
     let colon = put_text(&mut line, name, b": ");
     if rule != 0 {
         let forbidden = put_rule(&mut line, colon, rule);
         return write_front(folder, &line, forbidden);
     }
-    let answer = choice_lent(
+    let answer = price_of(
         z,
         strand_glues,
         scaffold,
@@ -200,15 +211,59 @@ fn write_strand(
         tiles,
         bay,
         strand,
-        new_offsets,
-        new_tiles,
-        layout,
         energies,
         notes,
     );
-    let word = put_text(&mut line, colon, b"legal, ");
-    let price = put_price(&mut line, word, exact, answer);
+    let legal = put_text(&mut line, colon, b"legal, ");
+    let price = put_price(&mut line, legal, exact, answer);
     write_front(folder, &line, price)
+}
+
+// A strand's number, which is below 64.
+fn tile_of(number: usize) -> u32 {
+    if number < 64 {
+        return number as u32;
+    }
+    64
+}
+
+// The least energy with a strand at a bay, over tables for the constraints that say so.
+fn price_of(
+    z: Sizes,
+    strand_glues: &[u32],
+    scaffold: &[u32],
+    delta_g: &[f64],
+    entropy: &[f64],
+    logs: &[f64],
+    seeds: &[u32],
+    offsets: &[usize],
+    tiles: &[u32],
+    bay: usize,
+    strand: u32,
+    energies: &mut [f64],
+    notes: &mut [u8],
+) -> EnergyAnswer {
+    let mut new_offsets = [0usize; 1025];
+    let mut new_tiles = [0u32; 65537];
+    let mut layout = [0u32; 1024];
+    choice_lent(
+        z,
+        strand_glues,
+        scaffold,
+        delta_g,
+        entropy,
+        logs,
+        seeds,
+        offsets,
+        tiles,
+        bay,
+        strand,
+        &mut new_offsets,
+        &mut new_tiles,
+        &mut layout,
+        energies,
+        notes,
+    )
 }
 
 // Which rule forbids a strand.

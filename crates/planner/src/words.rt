@@ -100,7 +100,7 @@ pub(crate) fn is_folder(place: usize) -> bool {
 }
 
 // How many folders the word at a place names, 0 or 1.
-fn folders_at(place: usize) -> usize
+pub(crate) fn folders_at(place: usize) -> usize
     ensures { λ r. ⌜ r ≤ 1 ⌝ }
 {
     if is_folder(place) { 1 } else { 0 }
@@ -167,10 +167,7 @@ pub(crate) fn first_fault() -> WordFault {
         }
         i += 1;
     }
-    WordFault {
-        place: 0,
-        fault: 0,
-    }
+    WordFault { place: 0, fault: 0 }
 }
 
 // Whether an option stands twice.
