@@ -30,18 +30,17 @@ fn say_missing(folder: &[u8], name: &[u8]) {
     );
 }
 
-// Says that a file is larger than its room.
+// Says that a file fills its room, so that it may be longer.
 fn say_large(folder: &[u8], name: &[u8], room: usize) {
     let mut line = [0u8; 8192];
     let at = begin(&mut line, folder);
     let next = put_text(&mut line, at, name);
-    let end = put_with(
+    let end = put_with(&mut line, next, b" has ", room);
+    finish(
         &mut line,
-        next,
-        b" has as many bytes as the planner's room for it or more, ",
-        room,
+        end,
+        b" bytes or more, which is larger than the planner's room for it; make it smaller, or use the library",
     );
-    finish(&mut line, end, b"; make it smaller, or use the library");
 }
 
 // Says that a file has no bytes.
@@ -52,7 +51,7 @@ fn say_empty(folder: &[u8], name: &[u8]) {
     finish(
         &mut line,
         next,
-        b" is empty, which says nothing: no seeds are the word none, and no restrictions are a field without content for each bay",
+        b" is empty, which says nothing; save it again (no seeds are the word none, and no restrictions are a blank field for each bay)",
     );
 }
 

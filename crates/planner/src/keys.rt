@@ -48,8 +48,9 @@ pub(crate) fn plan_keys(
         b"energies.csv",
         table,
         2048,
+        b"",
         b"there are more than 2048 energy keys, the planner's room; use the library",
-        b"an energy key has 5 fields: a name, a second name or nothing, and either the two numbers or, in the last field, a sequence",
+        b"an energy key has 5 fields: a name, a second name or nothing, and either the two numbers or, in the last field, a sequence; quotes stand around a whole field",
     ) {
         return false;
     }

@@ -131,6 +131,7 @@ fn read_seeds(
         b"seeds.csv",
         table,
         1024,
+        b"",
         b"there are more than 1024 seeds; a later seed replaces an earlier one of its bay, so 1024 are enough",
         b"a seed has 3 fields: its row, its column and a strand's name; where no bay is seeded the sheet is the word none",
     ) {
@@ -292,6 +293,7 @@ fn plan_temperature(
         b"temperature.csv",
         table,
         1,
+        b"",
         b"there is one temperature, in one line",
         b"the temperature is one decimal, in kelvin",
     ) {

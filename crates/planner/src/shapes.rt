@@ -16,17 +16,19 @@ pub(crate) fn table_of(sheet: &[u8], width: usize, most: usize) -> TableCheck
     check_table(sheet, width, most)
 }
 
-// Whether a sheet has records, all of them of the right number of fields, and no more than `most`; where not, a sentence says so.
+// Whether a sheet has records, all of them of the right number of fields, and no more than `most`; where not, a sentence says so, with the
+// refusal that too many records are.
 pub(crate) fn is_table(
     folder: &[u8],
     sheet: &[u8],
     check: TableCheck,
     most: usize,
+    refusal: &[u8],
     many: &[u8],
     form: &[u8],
 ) -> bool {
     if most < check.line {
-        say_many(folder, sheet, check.line, many);
+        say_many(folder, refusal, sheet, check.line, many);
         return false;
     }
     if check.line != 0 {
@@ -41,10 +43,11 @@ pub(crate) fn is_table(
 }
 
 // Says that there are too many records.
-fn say_many(folder: &[u8], sheet: &[u8], row: usize, many: &[u8]) {
+fn say_many(folder: &[u8], refusal: &[u8], sheet: &[u8], row: usize, many: &[u8]) {
     let mut line = [0u8; 8192];
     let at = begin(&mut line, folder);
-    let name = put_text(&mut line, at, sheet);
+    let number = put_text(&mut line, at, refusal);
+    let name = put_text(&mut line, number, sheet);
     let end = put_with(&mut line, name, b", line ", row);
     let next = put_text(&mut line, end, b": ");
     finish(&mut line, next, many);

@@ -31,8 +31,9 @@ pub(crate) fn plan_sheets(
         b"strands.csv",
         strands,
         63,
-        b"refusal 1: there are more than 63 strands; with the empty one a system has at most 64",
-        b"a strand has 7 fields: its name, the logarithm of its concentration, and its glues north, east, south, west and bottom",
+        b"refusal 1: ",
+        b"there are more than 63 strands; with the empty one a system has at most 64",
+        b"a strand has 7 fields: its name, the logarithm of its concentration, and its glues north, east, south, west and bottom; quotes stand around a whole field",
     ) {
         return false;
     }
@@ -50,7 +51,8 @@ pub(crate) fn plan_sheets(
         b"scaffold.csv",
         grid,
         32,
-        b"refusal 1: there are more than 32 rows; a grid has at most 32",
+        b"refusal 1: ",
+        b"there are more than 32 rows; a grid has at most 32",
         b"every row of the grid has a field for each column, and quotes stand around a whole field",
     ) {
         return false;

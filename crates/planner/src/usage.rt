@@ -16,24 +16,22 @@ pub(crate) fn write_help() -> bool {
         1,
         b"planner [OPTIONS] FOLDER...\n\
 Plans the layout of least energy for each folder of sheets, and says why every\n\
-bay holds what it holds.\n\
-\n\
-  --why ROW,COLUMN  for each strand: is it legal in that bay, at which energy\n\
-  --exact           energies with their bits beside them\n\
-  --sheet           the layout as a sheet of strand numbers, for the register\n\
-  --svg FILE        a drawing of the layout\n\
-  --each            of several folders the whole of each, not one line\n\
-  --progress        say on standard error which folder is planned\n\
-  --help            this text\n\
-\n\
-A folder has six sheets of comma-separated values:\n\
-  strands.csv       name, logarithm of concentration, glues north, east, south,\n\
-                    west, bottom: one strand a line\n\
-  scaffold.csv      the grid of glue names\n\
-  energies.csv      name, second name or nothing, and dG, dS or a sequence\n\
-  seeds.csv         row, column, strand name; or the word none\n\
-  temperature.csv   kelvin\n\
-  constraints.csv   the register's sheet: a 0 alone keeps a bay empty\n",
+bay holds what it holds.\n\n  \
+--why ROW,COLUMN  for each strand: is it legal in that bay, at which energy\n  \
+--exact           energies with their bits beside them\n  \
+--sheet           the layout as a sheet of strand numbers, for the register\n  \
+--svg FILE        a drawing of the layout\n  \
+--each            of several folders the whole of each, not one line\n  \
+--progress        say on standard error which folder is planned\n  \
+--help            this text\n\n\
+A folder has six sheets of comma-separated values:\n  \
+strands.csv       name, logarithm of concentration, glue north, east, south,\n                    \
+west and bottom: one strand a line\n  \
+scaffold.csv      the grid of glue names\n  \
+energies.csv      name, second name or nothing, dG, dS, or else a sequence\n  \
+seeds.csv         row, column, strand name; or the word none\n  \
+temperature.csv   kelvin\n  \
+constraints.csv   the register's sheet: a 0 alone keeps a bay empty\n",
     )
 }
 
@@ -43,7 +41,7 @@ fn say_word(fault: WordFault) {
     let n = os::arg(fault.place, &mut room);
     let word = first_bytes(&room, n);
     if fault.fault == 1 {
-        return say(b"call", b"a word is longer than 4095 bytes");
+        return say(b"usage", b"a word is longer than 4095 bytes");
     }
     if fault.fault == 2 {
         return say(word, b"there is no such option; --help has them all");
@@ -57,16 +55,16 @@ fn say_word(fault: WordFault) {
 // Whether options that go with one folder have one.
 fn fit_each_other(count: usize) -> bool {
     if count == 0 {
-        say(b"call", b"name a folder of sheets; --help tells more");
+        say(b"usage", b"name a folder of sheets; --help tells more");
         return false;
     }
     if count != 1 {
         if is_there(b"--sheet") {
-            say(b"--sheet", b"this goes with one folder");
+            say(b"--sheet", b"this option goes with one folder");
             return false;
         }
         if is_there(b"--svg") {
-            say(b"--svg", b"this goes with one folder");
+            say(b"--svg", b"this option goes with one folder");
             return false;
         }
     }
@@ -82,7 +80,7 @@ fn is_bay_named(count: usize) -> bool {
     if asked.sheet {
         say(
             b"--why",
-            b"this does not go with --sheet, which writes a sheet and nothing else",
+            b"this option does not go with --sheet, which writes a sheet and nothing else",
         );
         return false;
     }
