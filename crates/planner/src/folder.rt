@@ -8,114 +8,51 @@ use sheet_files::read_file;
 use slice_fronts::first_bytes;
 
 // Plans a folder; the answer is whether it could be planned. Where not, one sentence stands on standard error and nothing on standard output.
-pub(crate) fn plan_folder(
-    folder: &[u8],
-    wish: Wish,
-    energies: &mut [f64],
-    notes: &mut [u8],
-    page: &mut [u8],
-) -> bool {
+pub(crate) fn plan_folder(folder: &[u8], wish: Wish) -> bool {
     if !is_folder_there(folder) {
         return false;
     }
-    read_strands(folder, wish, energies, notes, page)
+    read_strands(folder, wish)
 }
 
-fn read_strands(
-    folder: &[u8],
-    wish: Wish,
-    energies: &mut [f64],
-    notes: &mut [u8],
-    page: &mut [u8],
-) -> bool {
+fn read_strands(folder: &[u8], wish: Wish) -> bool {
     let mut room = [0u8; 65536];
     let read = read_file(folder, b"strands.csv", &mut room);
     let text = first_bytes(&room, read.bytes);
     if !is_sheet(folder, b"strands.csv", read, 65536, text) {
         return false;
     }
-    read_scaffold(folder, wish, without_mark(text), energies, notes, page)
+    read_scaffold(folder, wish, without_mark(text))
 }
 
-fn read_scaffold(
-    folder: &[u8],
-    wish: Wish,
-    strands: &[u8],
-    energies: &mut [f64],
-    notes: &mut [u8],
-    page: &mut [u8],
-) -> bool {
+fn read_scaffold(folder: &[u8], wish: Wish, strands: &[u8]) -> bool {
     let mut room = [0u8; 65536];
     let read = read_file(folder, b"scaffold.csv", &mut room);
     let text = first_bytes(&room, read.bytes);
     if !is_sheet(folder, b"scaffold.csv", read, 65536, text) {
         return false;
     }
-    read_energies(
-        folder,
-        wish,
-        strands,
-        without_mark(text),
-        energies,
-        notes,
-        page,
-    )
+    read_energies(folder, wish, strands, without_mark(text))
 }
 
-fn read_energies(
-    folder: &[u8],
-    wish: Wish,
-    strands: &[u8],
-    scaffold: &[u8],
-    energies: &mut [f64],
-    notes: &mut [u8],
-    page: &mut [u8],
-) -> bool {
+fn read_energies(folder: &[u8], wish: Wish, strands: &[u8], scaffold: &[u8]) -> bool {
     let mut room = [0u8; 131072];
     let read = read_file(folder, b"energies.csv", &mut room);
     let text = first_bytes(&room, read.bytes);
     if !is_sheet(folder, b"energies.csv", read, 131072, text) {
         return false;
     }
-    read_seeds(
-        folder,
-        wish,
-        strands,
-        scaffold,
-        without_mark(text),
-        energies,
-        notes,
-        page,
-    )
+    read_seeds(folder, wish, strands, scaffold, without_mark(text))
 }
 
-fn read_seeds(
-    folder: &[u8],
-    wish: Wish,
-    strands: &[u8],
-    scaffold: &[u8],
-    keys: &[u8],
-    energies: &mut [f64],
-    notes: &mut [u8],
-    page: &mut [u8],
-) -> bool {
+fn read_seeds(folder: &[u8], wish: Wish, strands: &[u8], scaffold: &[u8], keys: &[u8]) -> bool {
     let mut room = [0u8; 65536];
     let read = read_file(folder, b"seeds.csv", &mut room);
     let text = first_bytes(&room, read.bytes);
     if !is_sheet(folder, b"seeds.csv", read, 65536, text) {
         return false;
     }
-    read_temperature(
-        folder,
-        wish,
-        strands,
-        scaffold,
-        keys,
-        without_mark(text),
-        energies,
-        notes,
-        page,
-    )
+    read_temperature(folder, wish, strands, scaffold, keys, without_mark(text))
 }
 
 fn read_temperature(
@@ -125,9 +62,6 @@ fn read_temperature(
     scaffold: &[u8],
     keys: &[u8],
     seeds: &[u8],
-    energies: &mut [f64],
-    notes: &mut [u8],
-    page: &mut [u8],
 ) -> bool {
     let mut room = [0u8; 4096];
     let read = read_file(folder, b"temperature.csv", &mut room);
@@ -143,9 +77,6 @@ fn read_temperature(
         keys,
         seeds,
         without_mark(text),
-        energies,
-        notes,
-        page,
     )
 }
 
@@ -158,9 +89,6 @@ fn read_constraints(
     keys: &[u8],
     seeds: &[u8],
     temperature: &[u8],
-    energies: &mut [f64],
-    notes: &mut [u8],
-    page: &mut [u8],
 ) -> bool {
     let mut room = [0u8; 262144];
     let read = read_file(folder, b"constraints.csv", &mut room);
@@ -177,8 +105,5 @@ fn read_constraints(
         seeds,
         temperature,
         text,
-        energies,
-        notes,
-        page,
     )
 }

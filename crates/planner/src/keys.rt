@@ -36,9 +36,6 @@ pub(crate) fn plan_keys(
     strand_glues: &[u32],
     scaffold: &[u32],
     bases: &[usize],
-    energies: &mut [f64],
-    notes: &mut [u8],
-    page: &mut [u8],
 ) -> bool
     requires { ⌜ records ≤ 63 ⌝ }
 {
@@ -83,9 +80,6 @@ pub(crate) fn plan_keys(
         strand_glues,
         scaffold,
         bases,
-        energies,
-        notes,
-        page,
     )
 }
 
@@ -118,9 +112,6 @@ fn plan_matrices(
     strand_glues: &[u32],
     scaffold: &[u32],
     bases: &[usize],
-    energies: &mut [f64],
-    notes: &mut [u8],
-    page: &mut [u8],
 ) -> bool
     requires { ⌜ (records ≤ 63) × («key_count» ≤ 2048) ⌝ }
 {
@@ -160,9 +151,6 @@ fn plan_matrices(
         scaffold,
         first_floats(&delta_g, pairs),
         first_floats(&entropy, pairs),
-        energies,
-        notes,
-        page,
     )
 }
 

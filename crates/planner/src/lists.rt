@@ -75,9 +75,6 @@ pub(crate) fn plan_lists(
     text: &[u8],
     name_offsets: &[usize],
     present: &[u8],
-    energies: &mut [f64],
-    notes: &mut [u8],
-    page: &mut [u8],
 ) -> bool {
     if !is_on_grid(wish, z.rows, z.cols) {
         say_off_grid(folder, z.rows, z.cols);
@@ -91,7 +88,7 @@ pub(crate) fn plan_lists(
             say_sheet(folder, r, z.rows, z.cols);
             false
         }
-        CountAnswer::Count(n) => plan_run(
+        CountAnswer::Count(n) => plan_ledger(
             folder,
             wish,
             z,
@@ -106,11 +103,90 @@ pub(crate) fn plan_lists(
             text,
             name_offsets,
             present,
-            energies,
-            notes,
-            page,
         ),
     }
+}
+
+// Makes the ledger of the run and the page of the report, and plans on.
+fn plan_ledger(
+    folder: &[u8],
+    wish: Wish,
+    z: Sizes,
+    strand_glues: &[u32],
+    scaffold: &[u32],
+    delta_g: &[f64],
+    entropy: &[f64],
+    logs: &[f64],
+    seeds: &[u32],
+    offsets: &[usize],
+    tiles: &[u32],
+    text: &[u8],
+    name_offsets: &[usize],
+    present: &[u8],
+) -> bool {
+    let mut energies = [0.0f64; 480000];
+    let mut notes = [0u8; 480000];
+    let mut page = [0u8; 524288];
+    plan_over(
+        folder,
+        wish,
+        z,
+        strand_glues,
+        scaffold,
+        delta_g,
+        entropy,
+        logs,
+        seeds,
+        offsets,
+        tiles,
+        text,
+        name_offsets,
+        present,
+        &mut energies,
+        &mut notes,
+        &mut page,
+    )
+}
+
+// Lends the whole arrays as slices.
+fn plan_over(
+    folder: &[u8],
+    wish: Wish,
+    z: Sizes,
+    strand_glues: &[u32],
+    scaffold: &[u32],
+    delta_g: &[f64],
+    entropy: &[f64],
+    logs: &[f64],
+    seeds: &[u32],
+    offsets: &[usize],
+    tiles: &[u32],
+    text: &[u8],
+    name_offsets: &[usize],
+    present: &[u8],
+    energies: &mut [f64; 480000],
+    notes: &mut [u8; 480000],
+    page: &mut [u8; 524288],
+) -> bool {
+    plan_run(
+        folder,
+        wish,
+        z,
+        strand_glues,
+        scaffold,
+        delta_g,
+        entropy,
+        logs,
+        seeds,
+        offsets,
+        tiles,
+        text,
+        name_offsets,
+        present,
+        energies,
+        notes,
+        page,
+    )
 }
 
 // Finds the layout of least energy, and shows it.

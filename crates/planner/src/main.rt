@@ -49,89 +49,47 @@ fn write_progress(folder: &[u8], number: usize, count: usize) {
 }
 
 // Plans the folder that the word at a place names.
-fn plan_word(
-    place: usize,
-    number: usize,
-    count: usize,
-    wish: Wish,
-    energies: &mut [f64],
-    notes: &mut [u8],
-    page: &mut [u8],
-) -> bool {
+fn plan_word(place: usize, number: usize, count: usize, wish: Wish) -> bool {
     let mut room = io::buffer();
     let n = os::arg(place, &mut room);
     let folder = first_bytes(&room, n);
     if is_there(b"--progress") {
         write_progress(folder, number, count);
     }
-    plan_folder(folder, wish, energies, notes, page)
+    plan_folder(folder, wish)
 }
 
 // How many of the folders that a word names, 0 or 1, could not be planned.
-fn failures_at(
-    place: usize,
-    number: usize,
-    count: usize,
-    wish: Wish,
-    energies: &mut [f64],
-    notes: &mut [u8],
-    page: &mut [u8],
-) -> usize
+fn failures_at(place: usize, number: usize, count: usize, wish: Wish) -> usize
     ensures { λ r. ⌜ r ≤ 1 ⌝ }
 {
     if !is_folder(place) {
         return 0;
     }
-    if plan_word(place, number, count, wish, energies, notes, page) {
+    if plan_word(place, number, count, wish) {
         return 0;
     }
     1
 }
 
 // Plans one folder after the other; the answer is how many could not be planned.
-fn plan_words(
-    wish: Wish,
-    count: usize,
-    energies: &mut [f64],
-    notes: &mut [u8],
-    page: &mut [u8],
-) -> usize {
+fn plan_words(wish: Wish, count: usize) -> usize {
     let words = os::arg_count();
     let mut number = 0;
     let mut failed = 0;
     let mut i = 1;
     while i < words {
         number += folders_at(i);
-        failed += failures_at(i, number, count, wish, energies, notes, page);
+        failed += failures_at(i, number, count, wish);
         i += 1;
     }
     failed
 }
 
-// The ledger and the page are lent as whole arrays.
-fn plan_all(
-    wish: Wish,
-    count: usize,
-    energies: &mut [f64; 480000],
-    notes: &mut [u8; 480000],
-    page: &mut [u8; 524288],
-) -> usize {
-    plan_words(wish, count, energies, notes, page)
-}
-
-// Makes the ledger and the page, and plans every folder.
+// Plans every folder.
 fn plan() -> usize {
     let count = folders();
-    let mut energies = [0.0f64; 480000];
-    let mut notes = [0u8; 480000];
-    let mut page = [0u8; 524288];
-    plan_all(
-        asked_for(count),
-        count,
-        &mut energies,
-        &mut notes,
-        &mut page,
-    )
+    plan_words(asked_for(count), count)
 }
 
 // Tells on descriptor 3 that all went well, where that is asked for.

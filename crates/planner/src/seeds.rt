@@ -54,9 +54,6 @@ pub(crate) fn plan_seeds(
     text: &[u8],
     offsets: &[usize],
     present: &[u8],
-    energies: &mut [f64],
-    notes: &mut [u8],
-    page: &mut [u8],
 ) -> bool {
     let mut seeds = [0u32; 3072];
     let read = read_seeds(
@@ -91,9 +88,6 @@ pub(crate) fn plan_seeds(
         text,
         offsets,
         present,
-        energies,
-        notes,
-        page,
     )
 }
 
@@ -283,9 +277,6 @@ fn plan_temperature(
     text: &[u8],
     offsets: &[usize],
     present: &[u8],
-    energies: &mut [f64],
-    notes: &mut [u8],
-    page: &mut [u8],
 ) -> bool {
     let table = table_of(temperature, 1, 1);
     if !is_table(
@@ -335,9 +326,6 @@ fn plan_temperature(
         text,
         offsets,
         present,
-        energies,
-        notes,
-        page,
     )
 }
 

@@ -47,9 +47,6 @@ pub(crate) fn plan_strands(
     scaffold: &[u32],
     delta_g: &[f64],
     entropy: &[f64],
-    energies: &mut [f64],
-    notes: &mut [u8],
-    page: &mut [u8],
 ) -> bool
     requires { ⌜ records ≤ 63 ⌝ }
 {
@@ -95,8 +92,5 @@ pub(crate) fn plan_strands(
         first_bytes(&text, end),
         first_numbers(&offsets, strands + 1),
         first_bytes(&present, strands),
-        energies,
-        notes,
-        page,
     )
 }

@@ -21,9 +21,6 @@ pub(crate) fn plan_sheets(
     seed_sheet: &[u8],
     temperature: &[u8],
     lists: &[u8],
-    energies: &mut [f64],
-    notes: &mut [u8],
-    page: &mut [u8],
 ) -> bool {
     let strands = table_of(strand_sheet, 7, 63);
     if !is_table(
@@ -69,9 +66,6 @@ pub(crate) fn plan_sheets(
         strands.records,
         grid.records,
         cols,
-        energies,
-        notes,
-        page,
     )
 }
 
@@ -121,9 +115,6 @@ fn plan_grid(
     records: usize,
     rows: usize,
     cols: usize,
-    energies: &mut [f64],
-    notes: &mut [u8],
-    page: &mut [u8],
 ) -> bool
     requires { ⌜ (records ≤ 63) × (rows ≤ 32) × (cols ≤ 32) ⌝ }
 {
@@ -171,8 +162,5 @@ fn plan_grid(
         slice_fronts::first_small_numbers(&strand_glues, records * 5 + 5),
         slice_fronts::first_small_numbers(&scaffold, bays),
         &bases,
-        energies,
-        notes,
-        page,
     )
 }

@@ -1,18 +1,15 @@
-use Prim.Native.Nat.{ℕ, _+_, _-_, _*_, _≤_, _<_, _^_}
-use mathlib.Core.Path.{_≡_}
+-- `planner::plan_words` ends with the last word, and counts no more failures than words. Assumes nothing.
+use Prim.Native.Nat.{_-_, _≤_}
 use native.Mathlib.Omega.{arith}
-use lib.ListN.{length}
 use borrow.Author.Needs.{needs}
 use Rattle.planner.proofs.plan_words.Statement.{statement}
 use Rattle.planner.proofs.plan_words.Tie as tie
 
 abbrev Inv-loop : tie.InvT-loop
-Inv-loop wish count energies₀ notes₀ page₀ words number₀ failed₀ i₀ energies notes page number failed i =
-    (number ≤ i) × (failed ≤ i) × (length energies ≡ length energies₀) × (length notes ≡ length notes₀) × (length page ≡ length page₀)
+Inv-loop wish count words number₀ failed₀ i₀ number failed i = (number ≤ i) × (failed ≤ i)
 
 abbrev μ-loop : tie.MeasureT-loop
-μ-loop wish count energies₀ notes₀ page₀ words number₀ failed₀ i₀ energies notes page number failed i =
-    words - i
+μ-loop wish count words number₀ failed₀ i₀ number failed i = words - i
 
 arg-count-requires : tie.Need-arg-count-requires Inv-loop μ-loop
 arg-count-requires c κs = search needs
@@ -41,15 +38,6 @@ loop-less c = omega arith
 loop-again : tie.Need-loop-again Inv-loop μ-loop
 loop-again c = search needs
 
-same-length : tie.Need-same-length Inv-loop μ-loop
-same-length c = search needs
-
-same-length-2 : tie.Need-same-length-2 Inv-loop μ-loop
-same-length-2 c = search needs
-
-same-length-3 : tie.Need-same-length-3 Inv-loop μ-loop
-same-length-3 c = search needs
-
 returns : tie.Need-returns Inv-loop μ-loop
 returns c = search needs
 
@@ -68,7 +56,4 @@ plan-words-spec =
     add-i
     loop-less
     loop-again
-    same-length
-    same-length-2
-    same-length-3
     returns)

@@ -1,5 +1,5 @@
-use Prim.Native.Nat.{ℕ, _+_, _-_, _*_, _≤_, _<_, _^_}
-use mathlib.Core.Path.{_≡_}
+-- `planner::reasons::write_reasons` reads no further than the marks. Assumes nothing.
+use Prim.Native.Nat.{_-_}
 use native.Mathlib.Omega.{arith}
 use lib.ListN.{length}
 use borrow.Author.Needs.{needs}

@@ -1,7 +1,6 @@
-use Prim.Native.Nat.{ℕ, _+_, _-_, _*_, _≤_, _<_, _^_}
-use mathlib.Core.Path.{_≡_}
+-- `planner::refusals::bad_sequence` ends with the last record. Assumes nothing.
+use Prim.Native.Nat.{_-_}
 use native.Mathlib.Omega.{arith}
-use lib.ListN.{length}
 use borrow.Author.Needs.{needs}
 use Rattle.planner.proofs.refusals.bad_sequence.Statement.{statement}
 use Rattle.planner.proofs.refusals.bad_sequence.Tie as tie

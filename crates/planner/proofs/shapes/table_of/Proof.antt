@@ -1,16 +1,13 @@
+-- `planner::shapes::table_of` finds no more records than it allows. Assumes nothing.
 use borrow.Author.Needs.{needs}
 use Rattle.sheet_records.proofs.Tables.{records-few}
 use Rattle.planner.proofs.shapes.table_of.Statement.{statement}
 use Rattle.planner.proofs.shapes.table_of.Tie as tie
 use Rattle.planner.proofs.shapes.table_of.Reads as reads
-use Rattle.planner.proofs.shapes.table_of.Lts as lts
-use Rattle.sheet_records.proofs.check_table.Reads as check-table-reads
 
--- src/shapes.rt:16:5
 check-table-requires : tie.Need-check-table-requires
 check-table-requires c κs = search needs
 
--- src/shapes.rt:12:1
 returns : tie.Need-returns
 returns c = rw (c .check-table .ensures) (records-few _ _ _)
 
