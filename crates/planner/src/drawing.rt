@@ -56,12 +56,16 @@ fn write_file(folder: &[u8], file: &[u8], text: &[u8]) -> bool {
     let end = put_text(&mut partial, name, b".partial");
     let own = first_bytes(&partial, end);
     if !write_new(own, text) {
-        say_unwritten(folder, own);
+        say_unwritten(
+            folder,
+            own,
+            b" cannot be made; where it is left from a run that was stopped, remove it",
+        );
         return false;
     }
     if os::rename(own, file) != 0 {
         os::unlink(own);
-        say_unwritten(folder, file);
+        say_unwritten(folder, file, b" cannot be written");
         return false;
     }
     true
@@ -82,9 +86,9 @@ fn write_new(file: &[u8], text: &[u8]) -> bool {
 }
 
 // Says that a file could not be written.
-fn say_unwritten(folder: &[u8], file: &[u8]) {
+fn say_unwritten(folder: &[u8], file: &[u8], text: &[u8]) {
     let mut line = [0u8; 12288];
     let at = begin(&mut line, folder);
     let name = put_text(&mut line, at, file);
-    finish(&mut line, name, b" cannot be written");
+    finish(&mut line, name, text);
 }

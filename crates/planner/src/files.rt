@@ -51,7 +51,7 @@ fn say_empty(folder: &[u8], name: &[u8]) {
     finish(
         &mut line,
         next,
-        b" is empty, which says nothing; save it again (no seeds are the word none, and no restrictions are a blank field for each bay)",
+        b" is empty or cannot be read; save it again (no seeds are the word none, and no restrictions are a blank field for each bay)",
     );
 }
 
@@ -64,7 +64,7 @@ fn say_no_text(folder: &[u8], name: &[u8], place: usize) {
     finish(
         &mut line,
         end,
-        b", counted from 0, is no part of UTF-8 text; save the sheet as comma-separated values",
+        b", counted from 0, is no part of UTF-8 text without control characters; save the sheet as comma-separated values",
     );
 }
 

@@ -58,7 +58,7 @@ pub(crate) fn plan_keys(
             b"energies.csv",
             fault.line,
             fault.field,
-            b"a key has a name in field 1, and either two decimals of at most 15 digits in fields 3 and 4 or a sequence in field 5 and nothing in those two",
+            b"a key has a name in field 1, and either two decimals such as -4.2 in fields 3 and 4 or a sequence in field 5 and nothing in those two; a decimal has at most 15 digits and 22 places, no exponent and no 0 in front",
         );
         return false;
     }

@@ -85,7 +85,7 @@ pub(crate) fn plan_lists(
     let places = after(scaffold.len());
     match read_lists(z.rows, z.cols, lists, places, &mut offsets, &mut tiles) {
         CountAnswer::Refused(r) => {
-            say_sheet(folder, r, z.rows, z.cols);
+            say_sheet(folder, r, z.rows, z.cols, lists);
             false
         }
         CountAnswer::Count(n) => plan_ledger(
@@ -124,8 +124,8 @@ fn plan_ledger(
     name_offsets: &[usize],
     present: &[u8],
 ) -> bool {
-    let mut energies = [0.0f64; 480000];
-    let mut notes = [0u8; 480000];
+    let mut energies = [0.0f64; 400000];
+    let mut notes = [0u8; 400000];
     let mut page = [0u8; 524288];
     plan_over(
         folder,
@@ -164,8 +164,8 @@ fn plan_over(
     text: &[u8],
     name_offsets: &[usize],
     present: &[u8],
-    energies: &mut [f64; 480000],
-    notes: &mut [u8; 480000],
+    energies: &mut [f64; 400000],
+    notes: &mut [u8; 400000],
     page: &mut [u8; 524288],
 ) -> bool {
     plan_run(

@@ -1,5 +1,6 @@
 // What is shown of a layout: a line, a sheet of numbers, or the whole with its reasons; and a drawing where one is asked for.
 use crate::drawing::draw;
+use crate::grid::has_room;
 use crate::grid::write_grid;
 use crate::lent::marks_lent;
 use crate::lent::sets_lent;
@@ -14,7 +15,40 @@ use slice_fronts::first_bytes;
 use slice_fronts::first_long_numbers;
 use units::Check;
 
-// Shows a layout, as it is asked for: the drawing first, since it can fail.
+// Whether what is asked for has room: a grid of names is written only where one is shown.
+fn is_showable(
+    folder: &[u8],
+    wish: Wish,
+    rows: usize,
+    cols: usize,
+    layout: &[u32],
+    text: &[u8],
+    name_offsets: &[usize],
+    present: &[u8],
+    energy: f64,
+    page: &mut [u8],
+) -> bool {
+    if wish.sheet {
+        return true;
+    }
+    if !wish.whole {
+        return true;
+    }
+    has_room(
+        folder,
+        wish.exact,
+        rows,
+        cols,
+        layout,
+        text,
+        name_offsets,
+        present,
+        energy,
+        page,
+    )
+}
+
+// Shows a layout, as it is asked for: what can fail comes first, and the drawing before any output.
 pub(crate) fn show(
     folder: &[u8],
     wish: Wish,
@@ -51,6 +85,20 @@ pub(crate) fn show(
     ) {
         Check::Refused(r) => return say_tables(folder, r),
         Check::Passed => (),
+    }
+    if !is_showable(
+        folder,
+        wish,
+        z.rows,
+        z.cols,
+        layout,
+        text,
+        name_offsets,
+        present,
+        energy,
+        page,
+    ) {
+        return false;
     }
     let shown = first_bytes(&marks, layout.len());
     if !draw(

@@ -60,7 +60,7 @@ fn write_reason(
     mark: u8,
     set: u64,
 ) -> bool {
-    let mut line = [0u8; 20480];
+    let mut line = [0u8; 36864];
     let first = put_with(&mut line, 0, b"bay ", row);
     let second = put_with(&mut line, first, b",", column);
     let colon = put_text(&mut line, second, b": ");

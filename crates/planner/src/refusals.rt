@@ -7,8 +7,11 @@ use crate::messages::put_field;
 use crate::messages::put_with;
 use crate::messages::say;
 use answer_texts::put_text;
+use bay_names::front;
+use plain_text::without_mark;
 use sheet_names::put_content;
 use sheet_records::place_after;
+use slice_fronts::first_bytes;
 use units::Check;
 use units::Refusal;
 
@@ -153,55 +156,102 @@ fn is_sequence(keys: &[u8], at: usize) -> bool {
     if n == 0 {
         return true;
     }
-    match utils::check_single(slice_fronts::first_bytes(&letters, n), 0) {
+    match utils::check_single(first_bytes(&letters, n), 0) {
         Check::Passed => true,
         Check::Refused(_) => false,
     }
 }
 
 // Says what the seeds refused: 4 by the place that is off the grid, 18 by the name.
-pub(crate) fn say_seeds(folder: &[u8], r: Refusal, rows: usize, cols: usize) {
-    let mut line = [0u8; 8192];
-    let at = begin(&mut line, folder);
-    let number = put_with(&mut line, at, b"refusal ", r.number as usize);
+pub(crate) fn say_seeds(folder: &[u8], r: Refusal, rows: usize, cols: usize, sheet: &[u8]) {
     if r.number == 4 {
-        let seed = put_with(&mut line, number, b": seeds.csv, line ", after(r.first));
-        let rows_end = put_with(
-            &mut line,
-            seed,
-            b": the bay is off the grid, which has rows 1 to ",
-            rows,
-        );
-        let cols_end = put_with(&mut line, rows_end, b" and columns 1 to ", cols);
-        let end = put_with(&mut line, cols_end, b" (seed ", r.first);
-        return finish(&mut line, end, b" counted from 0)");
+        return say_off_grid(folder, r.first, rows, cols, sheet);
     }
     if r.number == 18 {
-        let seed = put_with(&mut line, number, b": seeds.csv, line ", after(r.first));
-        let end = put_with(&mut line, seed, b", field 3 (seed ", r.first);
-        return finish(
-            &mut line,
-            end,
-            b" counted from 0): no strand has this name; use a name of strands.csv, or null to keep the bay empty",
-        );
-    }
-    finish(
-        &mut line,
-        number,
-        b": seeds.csv: the names take more than 16384 bytes; shorten them",
-    );
-}
-
-// Says what is wrong with the register's sheet.
-pub(crate) fn say_sheet(folder: &[u8], r: Refusal, rows: usize, cols: usize) {
-    if r.number == 19 {
-        return say_cell(folder, r.first, r.second, rows, cols);
+        return say_unnamed(folder, r.first, sheet);
     }
     say_number(
         folder,
         r,
-        b"constraints.csv has more than 65536 numbers, the planner's room; use the library",
+        b"seeds.csv: the names take more than 16384 bytes; shorten them",
     );
+}
+
+// Says which seed is off the grid.
+fn say_off_grid(folder: &[u8], seed: usize, rows: usize, cols: usize, sheet: &[u8]) {
+    let mut line = [0u8; 8192];
+    let at = begin(&mut line, folder);
+    let number = put_with(&mut line, at, b"refusal 4: seeds.csv, line ", after(seed));
+    let row_word = put_text(&mut line, number, b": row ");
+    let row = put_shown(&mut line, row_word, sheet, seed, 0);
+    let column_word = put_text(&mut line, row, b", column ");
+    let column = put_shown(&mut line, column_word, sheet, seed, 1);
+    let high = put_with(
+        &mut line,
+        column,
+        b" is off the grid, which has rows 1 to ",
+        rows,
+    );
+    let wide = put_with(&mut line, high, b" and columns 1 to ", cols);
+    let end = put_with(&mut line, wide, b" (seed ", seed);
+    finish(&mut line, end, b" counted from 0)");
+}
+
+// Says which seed has a name that no strand has.
+fn say_unnamed(folder: &[u8], seed: usize, sheet: &[u8]) {
+    let mut line = [0u8; 8192];
+    let at = begin(&mut line, folder);
+    let number = put_with(&mut line, at, b"refusal 18: seeds.csv, line ", after(seed));
+    let field = put_with(&mut line, number, b", field 3 (seed ", seed);
+    let word = put_text(&mut line, field, b" counted from 0): no strand is named ");
+    let name = put_shown(&mut line, word, sheet, seed, 2);
+    finish(
+        &mut line,
+        name,
+        b"; use a name of strands.csv, or null to keep the bay empty",
+    );
+}
+
+// The content of a seed's field, of which the first 40 characters are shown.
+fn put_shown(line: &mut [u8], at: usize, sheet: &[u8], seed: usize, column: usize) -> usize {
+    let place = field_place(sheet, seed, column);
+    if sheet.len() < place {
+        return at;
+    }
+    let mut content = [0u8; 164];
+    let n = put_content(sheet, place, &mut content, 0);
+    let shown = first_bytes(&content, n);
+    put_text(line, at, first_bytes(shown, front(shown, 40)))
+}
+
+// Where a field of a seed's record begins.
+fn field_place(sheet: &[u8], seed: usize, column: usize) -> usize {
+    let mut at = 0;
+    let mut i = 0;
+    while i < seed {
+        at = place_after(sheet, at, 3);
+        i += 1;
+    }
+    place_after(sheet, at, column)
+}
+
+// Says what is wrong with the register's sheet.
+pub(crate) fn say_sheet(folder: &[u8], r: Refusal, rows: usize, cols: usize, lists: &[u8]) {
+    if r.number != 19 {
+        return say_number(
+            folder,
+            r,
+            b"constraints.csv has more than 65536 numbers, the planner's room; use the library",
+        );
+    }
+    if without_mark(lists).len() != lists.len() {
+        return say_number(
+            folder,
+            r,
+            b"constraints.csv, line 1, field 1: the sheet begins with a byte order mark, which is no number; save it without one",
+        );
+    }
+    say_cell(folder, r.first, r.second, rows, cols);
 }
 
 // Says which field is no list, or is missing or surplus.

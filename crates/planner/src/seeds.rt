@@ -212,7 +212,7 @@ fn seeds_of(
         seeds,
     ) {
         Check::Refused(r) => {
-            say_seeds(folder, r, rows, cols);
+            say_seeds(folder, r, rows, cols, seed_sheet);
             no_seeds(false)
         }
         Check::Passed => SeedsRead {
@@ -298,7 +298,7 @@ fn plan_temperature(
             b"temperature.csv",
             1,
             1,
-            b"the temperature is one decimal of at most 15 digits, in kelvin, as 310.15 for 37 degrees Celsius",
+            b"the temperature is one decimal in kelvin, as 310.15 for 37 degrees Celsius, with at most 15 digits and 22 places",
         );
         return false;
     }

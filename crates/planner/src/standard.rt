@@ -19,9 +19,17 @@ pub(crate) fn write_front(folder: &[u8], text: &[u8], end: usize) -> bool {
     false
 }
 
+// An energy with two decimals; an infinite one is `inf`, as a logarithm may be.
+fn put_finite(out: &mut [u8], at: usize, energy: f64) -> usize {
+    if units::is_finite(energy) {
+        return put_energy(out, at, energy);
+    }
+    put_text(out, at, b"inf")
+}
+
 // An energy in kcal/mol, and its bits where they are asked for.
 pub(crate) fn put_kcal(out: &mut [u8], at: usize, exact: bool, energy: f64) -> usize {
-    let number = put_energy(out, at, energy);
+    let number = put_finite(out, at, energy);
     let unit = put_text(out, number, b" kcal/mol");
     if !exact {
         return unit;

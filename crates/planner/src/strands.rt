@@ -70,7 +70,7 @@ pub(crate) fn plan_strands(
             b"strands.csv",
             line,
             2,
-            b"the logarithm of a concentration is a decimal of at most 15 digits, as -13.8, or -inf",
+            b"the logarithm of a concentration is -inf or a decimal such as -13.8, with at most 15 digits and 22 places, no exponent and no 0 in front",
         );
         return false;
     }

@@ -47,7 +47,7 @@ pub(crate) fn say_run(
         return finish(
             &mut line,
             need,
-            b" rows of ledger, and the planner has 480000; restrict more bays, or lend the library's sdc2d_thermo::mfe_configuration a longer ledger",
+            b" rows of ledger, and the planner has 400000; restrict more bays, or lend the library's sdc2d_thermo::mfe_configuration a longer ledger",
         );
     }
     if r.number == 8 {

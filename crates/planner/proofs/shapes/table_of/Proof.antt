@@ -3,7 +3,6 @@ use borrow.Author.Needs.{needs}
 use Rattle.sheet_records.proofs.Tables.{records-few}
 use Rattle.planner.proofs.shapes.table_of.Statement.{statement}
 use Rattle.planner.proofs.shapes.table_of.Tie as tie
-use Rattle.planner.proofs.shapes.table_of.Reads as reads
 
 check-table-requires : tie.Need-check-table-requires
 check-table-requires c κs = search needs

@@ -4,7 +4,6 @@ use native.Mathlib.Nat.{mul-le-mul}
 use borrow.Author.Needs.{needs}
 use Rattle.planner.proofs.tables.plan_grid.Statement.{statement}
 use Rattle.planner.proofs.tables.plan_grid.Tie as tie
-use Rattle.planner.proofs.tables.plan_grid.Reads as reads
 
 mul-bays : tie.Need-mul-bays
 mul-bays c =
