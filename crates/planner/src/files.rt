@@ -5,11 +5,14 @@ use crate::messages::put_with;
 use crate::messages::say;
 use answer_texts::put_text;
 use sheet_files::FileRead;
-use sheet_files::read_file;
+use sheet_files::put_path;
+use slice_fronts::first_bytes;
 
-// Whether a folder can be opened.
+// Whether a folder can be opened, which a plain file cannot be as one.
 pub(crate) fn is_folder_there(folder: &[u8]) -> bool {
-    let file = os::open_read(folder);
+    let mut path = [0u8; 4200];
+    let end = put_path(folder, b".", &mut path);
+    let file = os::open_read(first_bytes(&path, end));
     if file < 0 {
         say(folder, b"there is no such folder, or it cannot be read");
         return false;

@@ -7,6 +7,7 @@ use crate::lent::sets_lent;
 use crate::numbers::write_numbers;
 use crate::reasons::write_reasons;
 use crate::refusals::say_tables;
+use crate::standard::write_front;
 use crate::summary::write_summary;
 use crate::why::write_why;
 use crate::wish::Wish;
@@ -146,7 +147,8 @@ pub(crate) fn show(
     )
 }
 
-// Shows the grid of names with its energy, then the reason of each bay, then the bay that is asked about.
+// Shows the grid of names with its energy, then the reason of each bay, then the bay that is asked about; of several folders
+// each ends with an empty line.
 fn show_whole(
     folder: &[u8],
     wish: Wish,
@@ -211,6 +213,51 @@ fn show_whole(
     ) {
         return false;
     }
+    if !show_bay(
+        folder,
+        wish,
+        z,
+        strand_glues,
+        scaffold,
+        delta_g,
+        entropy,
+        logs,
+        seeds,
+        offsets,
+        tiles,
+        text,
+        name_offsets,
+        present,
+        energies,
+        notes,
+    ) {
+        return false;
+    }
+    if wish.several {
+        return write_front(folder, b"\n", 1);
+    }
+    true
+}
+
+// Shows the bay that is asked about, if one is.
+fn show_bay(
+    folder: &[u8],
+    wish: Wish,
+    z: Sizes,
+    strand_glues: &[u32],
+    scaffold: &[u32],
+    delta_g: &[f64],
+    entropy: &[f64],
+    logs: &[f64],
+    seeds: &[u32],
+    offsets: &[usize],
+    tiles: &[u32],
+    text: &[u8],
+    name_offsets: &[usize],
+    present: &[u8],
+    energies: &mut [f64],
+    notes: &mut [u8],
+) -> bool {
     if !wish.why {
         return true;
     }

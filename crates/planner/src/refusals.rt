@@ -5,7 +5,6 @@ use crate::messages::finish;
 use crate::messages::put_bay;
 use crate::messages::put_field;
 use crate::messages::put_with;
-use crate::messages::say;
 use answer_texts::put_text;
 use bay_names::front;
 use plain_text::without_mark;

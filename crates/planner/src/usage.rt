@@ -1,5 +1,4 @@
 // How the planner is called, and what is said where it is called otherwise.
-use crate::messages::finish;
 use crate::messages::say;
 use crate::wish::asked_for;
 use crate::words::WordFault;
@@ -7,12 +6,11 @@ use crate::words::first_fault;
 use crate::words::folders;
 use crate::words::is_there;
 use crate::words::stands_twice;
-use answer_texts::put_text;
 use slice_fronts::first_bytes;
 
 // Writes how the planner is called.
 pub(crate) fn write_help() -> bool {
-    io::write_all(
+    let written = io::write_all(
         1,
         b"planner [OPTIONS] FOLDER...\n\
 Plans the layout of least energy for each folder of sheets, and says why every\n\
@@ -32,7 +30,11 @@ energies.csv      name, second name or nothing, dG, dS, or else a sequence\n  \
 seeds.csv         row, column, strand name; or the word none\n  \
 temperature.csv   kelvin\n  \
 constraints.csv   the register's sheet: a 0 alone keeps a bay empty\n",
-    )
+    );
+    if !written {
+        say(b"--help", b"standard output cannot be written");
+    }
+    written
 }
 
 // Says what is wrong with a word.
