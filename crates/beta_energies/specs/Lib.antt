@@ -1,2 +1,3 @@
 pub mod Energies
+pub mod ScanSum
 pub mod OnBay

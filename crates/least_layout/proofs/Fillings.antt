@@ -14,18 +14,17 @@ use lib.Seq.{drop-cons}
 use borrow.Author.Tests.{lt-leb, eq-eqb}
 use Rattle.sdc2d.specs.System.{System}
 use Rattle.beta_energies.specs.Energies.{bayEnergy, edgeEnergy}
+use Rattle.beta_energies.specs.ScanSum.{withBond, bayNumber, scanSumTo, scannedStrand}
 use Rattle.bay_lists.specs.Lists.{Constraints}
 use Rattle.legal_at.specs.Legal.{isLegal}
-use Rattle.scan_order.specs.Scan.{bayAt, numberAt}
+use Rattle.scan_order.specs.Scan.{byRows, window, bayAt, numberAt}
 use Rattle.legal.specs.Sets.{bays}
 use Rattle.scan_order.proofs.Scanned.{bay-inside, number-inside, scanned, numbered}
 use Rattle.ledger_rows.specs.Scan.{Scan, In, Legal, scanSum}
 use Rattle.ledger_rows.specs.Blocks.{tab}
 use Rattle.ledger_rows.proofs.Lists.{tab-at, length-tab}
-use Rattle.row_choice.specs.Row.{withBond}
-use Rattle.scan_tables.specs.Order.{byRows, window}
 use Rattle.least_layout.specs.Run.{systemScan, rowByRow}
-use Rattle.least_layout.specs.Layouts.{LegalLayout, scannedStrand, bayNumber, scanSumTo}
+use Rattle.least_layout.specs.Layouts.{LegalLayout}
 use Rattle.least_layout.proofs.Meaning.{legal-below, in-legal, legal-in, added-is}
 
 -- what the tests of a system have seen to
@@ -34,34 +33,38 @@ pub record Fit (s : System) : Type 0 where
   pub strands : s .sizes .strands ≤ 64
   pub some-window : 1 ≤ window (s .sizes .rows) (s .sizes .cols)
 
+-- the strands of the first k bays of the scan, newest first
+unfoldable pub newestFirst : (strandAt : ℕ → ℕ) → (k : ℕ) → List ℕ
+newestFirst strandAt zero = []
+newestFirst strandAt (suc k) = strandAt k ∷ newestFirst strandAt k
+
+pub length-newest : (strandAt : ℕ → ℕ) (k : ℕ) → length (newestFirst strandAt k) ≡ k
+unfolding newestFirst
+length-newest strandAt zero = refl
+length-newest strandAt (suc k) = ap suc (length-newest strandAt k)
+
+pub newest-at : (strandAt : ℕ → ℕ) (k j : ℕ) → j < k → getD (newestFirst strandAt k) j 0 ≡ strandAt (k - suc j)
+unfolding newestFirst
+newest-at strandAt zero j h = absurd (omega (arith, h))
+newest-at strandAt (suc k) zero h = ap strandAt (omega arith)
+newest-at strandAt (suc k) (suc j) h = newest-at strandAt k j (le-of-suc-le-suc h) ∙ ap strandAt (omega arith)
+
+pub newest-past : (strandAt : ℕ → ℕ) (k j : ℕ) → k ≤ j → getD (newestFirst strandAt k) j 0 ≡ 0
+unfolding newestFirst
+newest-past strandAt zero j h = refl
+newest-past strandAt (suc k) zero h = absurd (omega (arith, h))
+newest-past strandAt (suc k) (suc j) h = newest-past strandAt k j (le-of-suc-le-suc h)
+
+-- the strands that a layout has on the first bays of the scan, newest first
+abbrev pub fillingTo : System → (layout : List ℕ) → (k : ℕ) → List ℕ
+fillingTo s layout = newestFirst (scannedStrand s layout)
+
 module _ (s : System) where
   abbrev n : ℕ
   n = bays (s .sizes)
 
   abbrev m : ℕ
   m = window (s .sizes .rows) (s .sizes .cols)
-
-  -- the strands of the first k bays of the scan, newest first
-  unfoldable pub fillingTo : List ℕ → ℕ → List ℕ
-  fillingTo layout zero = []
-  fillingTo layout (suc k) = scannedStrand s layout k ∷ fillingTo layout k
-
-  length-filling : (layout : List ℕ) (k : ℕ) → length (fillingTo layout k) ≡ k
-  unfolding fillingTo
-  length-filling layout zero = refl
-  length-filling layout (suc k) = ap suc (length-filling layout k)
-
-  filling-at : (layout : List ℕ) (k j : ℕ) → j < k → getD (fillingTo layout k) j 0 ≡ scannedStrand s layout (k - suc j)
-  unfolding fillingTo
-  filling-at layout zero j h = absurd (omega (arith, h))
-  filling-at layout (suc k) zero h = ap (scannedStrand s layout) (omega arith)
-  filling-at layout (suc k) (suc j) h = filling-at layout k j (le-of-suc-le-suc h) ∙ ap (scannedStrand s layout) (omega arith)
-
-  filling-past : (layout : List ℕ) (k j : ℕ) → k ≤ j → getD (fillingTo layout k) j 0 ≡ 0
-  unfolding fillingTo
-  filling-past layout zero j h = refl
-  filling-past layout (suc k) zero h = absurd (omega (arith, h))
-  filling-past layout (suc k) (suc j) h = filling-past layout k j (le-of-suc-le-suc h)
 
   -- a neighbour that is not there plays no part
   no-line : (k : ℕ) → leb m k ≡ false → (a b u t : ℕ) → bayNumber s k a u t ≡ bayNumber s k b u t
@@ -83,86 +86,98 @@ module _ (s : System) where
       without u = rw e
 
   module _ (c : Constraints) (fit : Fit s) where
+    -- ---- legal strands on the first bays, and the filling that they make
+    module _ (strandAt : ℕ → ℕ) (last : ℕ) (inside : last ≤ n) (legal : (j : ℕ) → j < last → isLegal s c (bayAt (s .sizes .rows) (s .sizes .cols) j) (strandAt j) ≡ true) where
+      strand-below : (k : ℕ) → k < last → strandAt k < s .sizes .strands
+      strand-below k h = legal-below s c _ (strandAt k) (legal k h)
+
+      pub strands-legal : (k : ℕ) → k ≤ last → Legal (systemScan s c) k (newestFirst strandAt k)
+      unfolding newestFirst
+      strands-legal zero h = tt
+      strands-legal (suc k) h = (legal-in s c k (strandAt k) (omega (arith, h, inside)) (fit .strands) (legal k h), strands-legal k (omega (arith, h)))
+
+      -- the strand of the previous major line, where there is one
+      before-is : (k : ℕ) → k < last → (u t : ℕ)
+          → (getD (newestFirst strandAt k) (m - 1) 0 < s .sizes .strands)
+          × (bayNumber s k (getD (newestFirst strandAt k) (m - 1) 0) u t ≡ bayNumber s k (strandAt (k - m)) u t)
+      before-is k h u t = by (decLe m k)
+        where
+          by : Dec (m ≤ k) → (getD (newestFirst strandAt k) (m - 1) 0 < s .sizes .strands)
+              × (bayNumber s k (getD (newestFirst strandAt k) (m - 1) 0) u t ≡ bayNumber s k (strandAt (k - m)) u t)
+          by (yes l) =
+              let place : k - suc (m - 1) ≡ k - m = omega (arith, fit .some-window) in
+              let within : m - 1 < k = omega (arith, l, fit .some-window) in
+              let same : getD (newestFirst strandAt k) (m - 1) 0 ≡ strandAt (k - m) = newest-at strandAt k (m - 1) within ∙ ap strandAt place in
+              let earlier : k - m < last = omega (arith, h) in
+              (subst (λ (a : ℕ). a < s .sizes .strands) (sym same) (strand-below (k - m) earlier), ap (λ (a : ℕ). bayNumber s k a u t) same)
+          by (no l) =
+              let early : k < m = omega (arith, l) in
+              let past : k ≤ m - 1 = omega (arith, early) in
+              (subst (λ (a : ℕ). a < s .sizes .strands) (sym (newest-past strandAt k (m - 1) past)) (fit .some-strands), no-line k (lt-leb m k early) (getD (newestFirst strandAt k) (m - 1) 0) (strandAt (k - m)) u t)
+
+      -- the strand of the previous bay, where there is one
+      beside-is : (k : ℕ) → k < last → (a t : ℕ)
+          → (getD (newestFirst strandAt k) 0 0 < s .sizes .strands)
+          × (bayNumber s k a (getD (newestFirst strandAt k) 0 0) t ≡ bayNumber s k a (strandAt (k - 1)) t)
+      beside-is zero h a t =
+          (subst (λ (u : ℕ). u < s .sizes .strands) (sym (newest-past strandAt 0 0 (omega arith))) (fit .some-strands), no-bay 0 (eq-eqb (0 % m) 0 (zero-mod m)) a (getD (newestFirst strandAt 0) 0 0) (strandAt (0 - 1)) t)
+      beside-is (suc k) h a t =
+          let same : getD (newestFirst strandAt (suc k)) 0 0 ≡ strandAt (suc k - 1) = newest-at strandAt (suc k) 0 (omega arith) in
+          let earlier : suc k - 1 < last = omega (arith, h) in
+          (subst (λ (u : ℕ). u < s .sizes .strands) (sym same) (strand-below (suc k - 1) earlier), ap (λ (u : ℕ). bayNumber s (suc k) a u t) same)
+
+      pub strands-sum : (k : ℕ) → k ≤ last → scanSum (systemScan s c) (newestFirst strandAt k) ≡ scanSumTo s strandAt k
+      unfolding newestFirst scanSum scanSumTo
+      strands-sum zero h = refl
+      strands-sum (suc k) h =
+          let f = newestFirst strandAt k in
+          let a = getD f (m - 1) 0 in
+          let u = getD f 0 0 in
+          let t = strandAt k in
+          let before = before-is k h u t in
+          let beside = beside-is k h (strandAt (k - m)) t in
+          ap₂ (add binary64) (strands-sum k (omega (arith, h)))
+          (ap (λ (j : ℕ). systemScan s c .added j a u t) (length-newest strandAt k) ∙ added-is s c k a u t (omega (arith, h, inside)) (fit .strands) (before .0) (beside .0) (strand-below k h) ∙ before .1 ∙ beside .1)
+
     -- ---- from a layout to its filling
     module _ (layout : List ℕ) (legal : LegalLayout s c layout) where
       strand-legal : (k : ℕ) → k < n → isLegal s c (bayAt (s .sizes .rows) (s .sizes .cols) k) (scannedStrand s layout k) ≡ true
       strand-legal k h = legal .each (bayAt (s .sizes .rows) (s .sizes .cols) k) (bay-inside (s .sizes .rows) (s .sizes .cols) k h)
 
-      strand-below : (k : ℕ) → k < n → scannedStrand s layout k < s .sizes .strands
-      strand-below k h = legal-below s c _ (scannedStrand s layout k) (strand-legal k h)
+      pub filling-legal : (k : ℕ) → k ≤ n → Legal (systemScan s c) k (fillingTo s layout k)
+      filling-legal = strands-legal (scannedStrand s layout) n (omega arith) strand-legal
 
-      pub filling-legal : (k : ℕ) → k ≤ n → Legal (systemScan s c) k (fillingTo layout k)
-      unfolding fillingTo
-      filling-legal zero h = tt
-      filling-legal (suc k) h = (legal-in s c k (scannedStrand s layout k) h (fit .strands) (strand-legal k h), filling-legal k (omega (arith, h)))
+      pub filling-sum : (k : ℕ) → k ≤ n → scanSum (systemScan s c) (fillingTo s layout k) ≡ scanSumTo s (scannedStrand s layout) k
+      filling-sum = strands-sum (scannedStrand s layout) n (omega arith) strand-legal
 
-      -- the strand of the previous major line, where there is one
-      before-is : (k : ℕ) → k < n → (u t : ℕ)
-          → (getD (fillingTo layout k) (m - 1) 0 < s .sizes .strands)
-          × (bayNumber s k (getD (fillingTo layout k) (m - 1) 0) u t ≡ bayNumber s k (scannedStrand s layout (k - m)) u t)
-      before-is k h u t = by (decLe m k)
-        where
-          by : Dec (m ≤ k) → (getD (fillingTo layout k) (m - 1) 0 < s .sizes .strands)
-              × (bayNumber s k (getD (fillingTo layout k) (m - 1) 0) u t ≡ bayNumber s k (scannedStrand s layout (k - m)) u t)
-          by (yes l) =
-              let place : k - suc (m - 1) ≡ k - m = omega (arith, fit .some-window) in
-              let inside : m - 1 < k = omega (arith, l, fit .some-window) in
-              let same : getD (fillingTo layout k) (m - 1) 0 ≡ scannedStrand s layout (k - m) = filling-at layout k (m - 1) inside ∙ ap (scannedStrand s layout) place in
-              let earlier : k - m < n = omega (arith, h) in
-              (subst (λ (a : ℕ). a < s .sizes .strands) (sym same) (strand-below (k - m) earlier), ap (λ (a : ℕ). bayNumber s k a u t) same)
-          by (no l) =
-              let early : k < m = omega (arith, l) in
-              let past : k ≤ m - 1 = omega (arith, early) in
-              (subst (λ (a : ℕ). a < s .sizes .strands) (sym (filling-past layout k (m - 1) past)) (fit .some-strands), no-line k (lt-leb m k early) (getD (fillingTo layout k) (m - 1) 0) (scannedStrand s layout (k - m)) u t)
+    -- ---- a legal filling has a legal strand on each bay
+    pub legal-long : (k : ℕ) (g : List ℕ) → Legal (systemScan s c) k g → length g ≡ k
+    legal-long zero [] l = refl
+    legal-long zero (t ∷ g) l = absurd l
+    legal-long (suc k) [] l = absurd l
+    legal-long (suc k) (t ∷ g) l = ap suc (legal-long k g (l .1))
 
-      -- the strand of the previous bay, where there is one
-      beside-is : (k : ℕ) → k < n → (a t : ℕ)
-          → (getD (fillingTo layout k) 0 0 < s .sizes .strands)
-          × (bayNumber s k a (getD (fillingTo layout k) 0 0) t ≡ bayNumber s k a (scannedStrand s layout (k - 1)) t)
-      beside-is zero h a t =
-          (subst (λ (u : ℕ). u < s .sizes .strands) (sym (filling-past layout 0 0 (omega arith))) (fit .some-strands), no-bay 0 (eq-eqb (0 % m) 0 (zero-mod m)) a (getD (fillingTo layout 0) 0 0) (scannedStrand s layout (0 - 1)) t)
-      beside-is (suc k) h a t =
-          let same : getD (fillingTo layout (suc k)) 0 0 ≡ scannedStrand s layout (suc k - 1) = filling-at layout (suc k) 0 (omega arith) in
-          let earlier : suc k - 1 < n = omega (arith, h) in
-          (subst (λ (u : ℕ). u < s .sizes .strands) (sym same) (strand-below (suc k - 1) earlier), ap (λ (u : ℕ). bayNumber s (suc k) a u t) same)
+    each-in : (j : ℕ) (g : List ℕ) → Legal (systemScan s c) j g → (k : ℕ) → k < j → In (systemScan s c .strands k) (getD g (j - suc k) 0)
+    each-in zero g l k h = absurd (omega (arith, h))
+    each-in (suc j) [] l k h = absurd l
+    each-in (suc j) (t ∷ g) l k h = ⊎-elim newest (earlier (each-in j g (l .1) k)) (eq-or-lt-of-le (le-of-suc-le-suc h))
+      where
+        newest : k ≡ j → In (systemScan s c .strands k) (getD (t ∷ g) (suc j - suc k) 0)
+        newest e =
+            let first : suc j - suc k ≡ 0 = omega (arith, e) in
+            subst (λ (i : ℕ). In (systemScan s c .strands k) (getD (t ∷ g) i 0)) (sym first) (subst (λ (i : ℕ). In (systemScan s c .strands i) t) (sym e) (l .0))
 
-      pub filling-sum : (k : ℕ) → k ≤ n → scanSum (systemScan s c) (fillingTo layout k) ≡ scanSumTo s layout k
-      unfolding fillingTo scanSum scanSumTo
-      filling-sum zero h = refl
-      filling-sum (suc k) h =
-          let f = fillingTo layout k in
-          let a = getD f (m - 1) 0 in
-          let u = getD f 0 0 in
-          let t = scannedStrand s layout k in
-          let before = before-is k h u t in
-          let beside = beside-is k h (scannedStrand s layout (k - m)) t in
-          ap₂ (add binary64) (filling-sum k (omega (arith, h)))
-          (ap (λ (j : ℕ). systemScan s c .added j a u t) (length-filling layout k) ∙ added-is s c k a u t h (fit .strands) (before .0) (beside .0) (strand-below k h) ∙ before .1 ∙ beside .1)
+        earlier : (k < j → In (systemScan s c .strands k) (getD g (j - suc k) 0)) → k < j → In (systemScan s c .strands k) (getD (t ∷ g) (suc j - suc k) 0)
+        earlier old b =
+            let next : suc j - suc k ≡ suc (j - suc k) = omega (arith, b) in
+            subst (λ (i : ℕ). In (systemScan s c .strands k) (getD (t ∷ g) i 0)) (sym next) (old b)
+
+    pub each-legal : (j : ℕ) (g : List ℕ) → Legal (systemScan s c) j g → j ≤ n → (k : ℕ) → k < j
+        → isLegal s c (bayAt (s .sizes .rows) (s .sizes .cols) k) (getD g (j - suc k) 0) ≡ true
+    each-legal j g l inside k h = in-legal s c k (getD g (j - suc k) 0) (omega (arith, h, inside)) (each-in j g l k h)
 
     -- ---- from a filling to its layout
     module _ (f : List ℕ) (legal : Legal (systemScan s c) n f) where
-      long : (k : ℕ) (g : List ℕ) → Legal (systemScan s c) k g → length g ≡ k
-      long zero [] l = refl
-      long zero (t ∷ g) l = absurd l
-      long (suc k) [] l = absurd l
-      long (suc k) (t ∷ g) l = ap suc (long k g (l .1))
-
-      -- the strand of each bay is legal there
-      each-in : (j : ℕ) (g : List ℕ) → Legal (systemScan s c) j g → (k : ℕ) → k < j → In (systemScan s c .strands k) (getD g (j - suc k) 0)
-      each-in zero g l k h = absurd (omega (arith, h))
-      each-in (suc j) [] l k h = absurd l
-      each-in (suc j) (t ∷ g) l k h = ⊎-elim newest (earlier (each-in j g (l .1) k)) (eq-or-lt-of-le (le-of-suc-le-suc h))
-        where
-          newest : k ≡ j → In (systemScan s c .strands k) (getD (t ∷ g) (suc j - suc k) 0)
-          newest e =
-              let first : suc j - suc k ≡ 0 = omega (arith, e) in
-              subst (λ (i : ℕ). In (systemScan s c .strands k) (getD (t ∷ g) i 0)) (sym first) (subst (λ (i : ℕ). In (systemScan s c .strands i) t) (sym e) (l .0))
-
-          earlier : (k < j → In (systemScan s c .strands k) (getD g (j - suc k) 0)) → k < j → In (systemScan s c .strands k) (getD (t ∷ g) (suc j - suc k) 0)
-          earlier old b =
-              let next : suc j - suc k ≡ suc (j - suc k) = omega (arith, b) in
-              subst (λ (i : ℕ). In (systemScan s c .strands k) (getD (t ∷ g) i 0)) (sym next) (old b)
-
       abbrev laid : List ℕ
       laid = rowByRow (s .sizes .rows) (s .sizes .cols) f
 
@@ -176,20 +191,20 @@ module _ (s : System) where
           each bay h =
               let k = numberAt (s .sizes .rows) (s .sizes .cols) bay in
               let inside = number-inside (s .sizes .rows) (s .sizes .cols) bay h in
-              ap₂ (isLegal s c) (sym (scanned (s .sizes .rows) (s .sizes .cols) bay h)) (laid-at bay h) ∙ in-legal s c k (getD f (n - suc k) 0) inside (each-in n f legal k inside)
+              ap₂ (isLegal s c) (sym (scanned (s .sizes .rows) (s .sizes .cols) bay h)) (laid-at bay h) ∙ each-legal n f legal (omega arith) k inside
 
       -- the layout's filling is the filling
-      back-to : (k : ℕ) → k ≤ n → fillingTo laid k ≡ drop (n - k) f
-      unfolding fillingTo
-      back-to zero h = let all : length f ≤ n - 0 = omega (arith, long n f legal) in sym (drop-of-length-le f all)
+      back-to : (k : ℕ) → k ≤ n → fillingTo s laid k ≡ drop (n - k) f
+      unfolding newestFirst
+      back-to zero h = let all : length f ≤ n - 0 = omega (arith, legal-long n f legal) in sym (drop-of-length-le f all)
       back-to (suc k) h =
           let bay = bayAt (s .sizes .rows) (s .sizes .cols) k in
           let place : suc (n - suc k) ≡ n - k = omega (arith, h) in
-          let inside : n - suc k < length f = omega (arith, h, long n f legal) in
+          let inside : n - suc k < length f = omega (arith, h, legal-long n f legal) in
           let own : scannedStrand s laid k ≡ getD f (n - suc k) 0 =
           laid-at bay (bay-inside (s .sizes .rows) (s .sizes .cols) k h)
           ∙ ap (λ (j : ℕ). getD f (n - suc j) 0) (numbered (s .sizes .rows) (s .sizes .cols) k h) in
           ap₂ (λ (t : ℕ) (g : List ℕ). t ∷ g) own (back-to k (omega (arith, h)) ∙ ap (λ (j : ℕ). drop j f) (sym place)) ∙ sym (drop-cons f (n - suc k) 0 inside)
 
-      pub filling-back : fillingTo laid n ≡ f
+      pub filling-back : fillingTo s laid n ≡ f
       filling-back = let none : n - n ≡ 0 = omega arith in back-to n (omega arith) ∙ ap (λ (j : ℕ). drop j f) none

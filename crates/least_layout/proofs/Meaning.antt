@@ -16,20 +16,20 @@ use Rattle.sets.proofs.Words.{has-word, word-same, word-has}
 use Rattle.sets.proofs.Members.{Member, member, member-at, members-same, length-less, rising}
 use Rattle.sdc2d.specs.System.{System}
 use Rattle.beta_energies.specs.Energies.{nothing, bayEnergy, edgeEnergy}
+use Rattle.beta_energies.specs.ScanSum.{withBond, bayNumber}
 use Rattle.bay_lists.specs.Lists.{Constraints}
 use Rattle.legal_at.specs.Legal.{permitted, isLegal}
-use Rattle.scan_order.specs.Scan.{bayAt}
+use Rattle.scan_order.specs.Scan.{byRows, window, bayAt}
 use Rattle.legal.specs.Sets.{bays, setsOf}
 use Rattle.scan_order.proofs.Scanned.{bay-inside}
 use Rattle.legal.proofs.Seven.{set-of-bay}
 use Rattle.ledger_rows.specs.Scan.{Scan, In, Rising}
 use Rattle.ledger_rows.specs.Blocks.{tab}
 use Rattle.ledger_rows.proofs.Lists.{tab-at}
-use Rattle.row_choice.specs.Row.{strandsOf, bondAt, withBond}
-use Rattle.scan_tables.specs.Order.{byRows, window, scanSets}
+use Rattle.row_choice.specs.Row.{strandsOf, bondAt}
+use Rattle.scan_tables.specs.Order.{scanSets}
 use Rattle.run_tables.specs.Tables.{pairEnergy, bondTable, siteEnergy, siteTable}
 use Rattle.least_layout.specs.Run.{systemScan}
-use Rattle.least_layout.specs.Layouts.{bayNumber}
 
 and-left : (a b : Bool) → (a && b) ≡ true → a ≡ true
 and-left true b e = refl

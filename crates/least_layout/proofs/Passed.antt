@@ -16,12 +16,11 @@ use Rattle.sdc2d.specs.System.{System}
 use Rattle.sdc2d.proofs.Fine.{Fine}
 use Rattle.bay_lists.specs.Lists.{Constraints}
 use Rattle.legal_at.specs.Legal.{isLegal}
-use Rattle.scan_order.specs.Scan.{bayAt}
+use Rattle.scan_order.specs.Scan.{window, bayAt}
 use Rattle.legal.specs.Sets.{bays, setsOf, emptyVerdict}
 use Rattle.scan_order.proofs.Scanned.{bay-inside}
 use Rattle.legal.proofs.Seven.{seven, set-of-bay}
 use Rattle.ledger_rows.specs.Scan.{Filled}
-use Rattle.scan_tables.specs.Order.{window}
 use Rattle.least_layout.specs.Run.{systemScan}
 use Rattle.least_layout.specs.Layouts.{LeastLayoutTheorem}
 use Rattle.least_layout.proofs.Meaning.{strands-are}

@@ -7,13 +7,13 @@ use lib.ListN.{getD}
 use Rattle.sdc2d.specs.declared.sizes.Sizes.{Sizes}
 use Rattle.sdc2d.specs.System.{System}
 use Rattle.bay_lists.specs.Lists.{Constraints}
-use Rattle.scan_order.specs.Scan.{numberAt}
+use Rattle.scan_order.specs.Scan.{byRows, window, numberAt}
 use Rattle.legal.specs.Sets.{bays, setsOf}
 use Rattle.ledger_rows.specs.Scan.{Scan}
 use Rattle.ledger_rows.specs.Blocks.{tab, need}
 use Rattle.ledger_rows.specs.Trace.{answer, layout}
 use Rattle.ledger_fill.specs.Handed.{runScan}
-use Rattle.scan_tables.specs.Order.{byRows, window, scanSets}
+use Rattle.scan_tables.specs.Order.{scanSets}
 use Rattle.run_tables.specs.Tables.{bondTable, siteTable}
 
 -- the bays of a grid in scan order, by their sets: strands by rising number, and (bay + bond to the previous major line) + bond to the previous bay

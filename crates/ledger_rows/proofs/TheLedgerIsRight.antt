@@ -24,7 +24,7 @@ use Rattle.ledger_rows.proofs.Numbering.{Digits, digits, row, row-lt, s
 use Rattle.ledger_rows.proofs.Rows.{energies-at, notes-at, length-energies, length-notes}
 use Rattle.ledger_rows.proofs.Least.{least, lower-leaver}
 use Rattle.ledger_rows.proofs.Places.{leavers-rise}
-use Rattle.ledger_rows.proofs.LeadsBack.{Back, leads-back}
+use Rattle.ledger_rows.proofs.LeadsBack.{Back, leads-back, on-the-way}
 use Rattle.ledger_rows.proofs.Windows.{length-choices, choice-of, choice-once}
 use Rattle.ledger_rows.proofs.Tables.{length-energy-table, length-note-table, energies-follow, notes-follow}
 
@@ -122,7 +122,7 @@ module _ (z : Scan) where
         (lower-leaver z k t f l (leavers-rise z rise (z .kept) k) (subst (λ x. Good x) energy (good i h)) (subst (λ s. getD f (z .kept) 0 < s) note less))
 
     leads : (k i : ℕ) (f : List ℕ) → Back z k i f → LeadsBack z k i f
-    leads k i f b = record { legal = b .legal; ends = own-choice k f (b .legal) ∙ ap (λ r. getD (windows z k) r []) (b .at); sum = b .sum }
+    leads k i f b = record { legal = b .legal; ends = own-choice k f (b .legal) ∙ ap (λ r. getD (windows z k) r []) (b .at); sum = b .sum; noted = b .noted }
 
     -- ---- the layout
     last : Back z n (chose .0) (layout z n)
@@ -158,6 +158,9 @@ module _ (z : Scan) where
           least = λ g k i h b. least-of (suc k) i (good-rows g (suc k) h) (in-block (suc k) i b);
           lowest-leaver = λ g k i h b. lower-left k i (good-rows g (suc k) h) (in-block (suc k) i b);
           leads-back = λ k i h b. leads (suc k) i (trace z (suc k) i) (leads-back z (suc k) i (earlier k h) rise (in-block (suc k) i b));
+          on-the-way = λ k i j h b l.
+              let back = on-the-way z (suc k) i (earlier k h) rise (in-block (suc k) i b) (suc j) (omega (arith, l)) in
+              (back .0, in-windows (suc j) (back .0) (back .1), leads (suc j) (back .0) _ (back .2));
           legal-layout = last .legal;
           answered-sum = answered-sum;
           no-smaller = λ g f l. smallest g f l .1;

@@ -4,9 +4,9 @@ use mathlib.Core.Path.{_≡_}
 use mathlib.Core.Logic.{_↔_}
 use mathlib.Core.Bool.{true}
 use mathlib.Core.List.{List, [], _∷_, _++_, map}
-use Prim.Native.Nat.{ℕ, zero, suc, _+_, _<_}
+use Prim.Native.Nat.{ℕ, zero, suc, _+_, _-_, _≤_, _<_}
 use lib.Ieee.{lt, le}
-use lib.ListN.{length, getD, take}
+use lib.ListN.{length, getD, take, drop}
 use Rattle.floats.specs.Values.{Good, Bad}
 use Rattle.ledger_rows.specs.Scan.{Scan, Legal, scanSum}
 use Rattle.ledger_rows.specs.Blocks.{heldAt, energies, notes, need, energyTable, noteTable}
@@ -31,11 +31,13 @@ windows z k = choices z k (suc (z .kept))
 abbrev pub EndsIn : Scan → (k i : ℕ) → List ℕ → Type 0
 EndsIn z k i f = take (suc (z .kept)) f ≡ getD (windows z k) i []
 
--- a filling to which row i of block k leads back: legal, it ends in the row's choice, and its scan sum is the row's energy to the bit
+-- a filling to which row i of block k leads back: legal, it ends in the row's choice, its scan sum is the row's energy to the bit, and the row's note is
+-- the strand that left the window in it, 0 while none has
 pub record LeadsBack (z : Scan) (k i : ℕ) (f : List ℕ) : Type 0 where
   pub legal : Legal z k f
   pub ends : EndsIn z k i f
   pub sum : scanSum z f ≡ heldAt (energies z k) i
+  pub noted : getD (notes z k) i 0 ≡ getD f (suc (z .kept)) 0
 
 -- no legal filling of the first k bays that ends in the choice of row i has a smaller scan sum than the row's energy
 abbrev pub LeastOf : Scan → (k i : ℕ) → Type 0
@@ -62,6 +64,9 @@ pub record LeastEnergyTheorem (z : Scan) (n : ℕ) : Type 0 where
   pub least : Answered z n → (k i : ℕ) → k < n → i < length (windows z (suc k)) → LeastOf z (suc k) i
   -- "and the noted strands lead back to such a filling, whose scan sum is that energy to the bit"
   pub leads-back : (k i : ℕ) → k < n → i < length (windows z (suc k)) → LeadsBack z (suc k) i (trace z (suc k) i)
+  -- on the way back, at each bay j, a row leads to the filling as far as that bay
+  pub on-the-way : (k i j : ℕ) → k < n → i < length (windows z (suc k)) → j ≤ k
+      → (p : ℕ) × (p < length (windows z (suc j))) × LeadsBack z (suc j) p (drop (suc k - suc j) (trace z (suc k) i))
   -- "an equal one never replaces, so the lowest leaving strand stays": a filling from which a lower strand left has a larger scan sum
   pub lowest-leaver : Answered z n → (k i : ℕ) → k < n → i < length (windows z (suc k)) → (f : List ℕ) → Legal z (suc k) f → EndsIn z (suc k) i f
       → getD f (suc (z .kept)) 0 < getD (notes z (suc k)) i 0 → lt (heldAt (energies z (suc k)) i) (scanSum z f) ≡ true

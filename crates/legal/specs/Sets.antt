@@ -13,9 +13,7 @@ use Rattle.sdc2d.specs.System.{System, systemVerdict}
 use Rattle.bay_lists.specs.Lists.{Constraints, offsetsShaped}
 use Rattle.legal_at.specs.Legal.{isLegal}
 use Rattle.scan_order.specs.Scan.{bayAt}
-
-abbrev pub bays : Sizes → ℕ
-bays z = z .rows * z .cols
+pub use Rattle.sdc2d.specs.System.{bays}
 
 -- the sets of the first n bays, row by row, by what is legal at each
 unfoldable pub setsTo : (legal : ℕ → ℕ → Bool) → (n : ℕ) → List ℕ

@@ -1,11 +1,11 @@
 -- One row of a block, from what the code has at hand: what a strand adds, and the lowest sum over the strands that leave. Assumes nothing.
-use mathlib.Core.Bool.{Bool, cond}
 use mathlib.Core.List.{List}
 use Prim.Native.Nat.{ℕ, _+_, _*_}
 use lib.Ieee.{Float, nan, binary64, add}
 use lib.ListN.{getD}
 use Rattle.floats.specs.declared.Choice.{Choice}
 use Rattle.sets.specs.Set.{has, members}
+use Rattle.beta_energies.specs.ScanSum.{withBond}
 use Rattle.ledger_rows.specs.Blocks.{heldAt, rowFrom}
 use Rattle.row_choice.specs.declared.Own.{Own}
 
@@ -16,10 +16,6 @@ strandsOf set = members (has set) 64
 -- the bond of strand s with strand t, which comes after it: those of one t stand side by side
 abbrev pub bondAt : (table : List Float) → (s t : ℕ) → Float
 bondAt table s t = getD table (t * 64 + s) nan
-
--- where a neighbour is there, its bond is added
-abbrev pub withBond : (there : Bool) → (bond x : Float) → Float
-withBond there bond x = cond there (add binary64 x bond) x
 
 -- what a strand adds, with strand s on the bay of the previous major line
 abbrev pub ownAdds : Own → (major : List Float) → (s : ℕ) → Float

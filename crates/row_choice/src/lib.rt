@@ -3,7 +3,8 @@ ghost use mathlib.Core.Path.{_≡_};
 ghost use Prim.Native.Nat.{_≤_, _<_};
 ghost use lib.ListN.{length};
 ghost use Rattle.ledger_rows.specs.Blocks.{heldAt};
-ghost use Rattle.row_choice.specs.Row.{strandsOf, bondAt, withBond, ownAdds, leftBy, ownRow};
+ghost use Rattle.beta_energies.specs.ScanSum.{withBond};
+ghost use Rattle.row_choice.specs.Row.{strandsOf, bondAt, ownAdds, leftBy, ownRow};
 use floats::Choice;
 
 // What is fixed of a strand in a row: its bay energy, its bond to the previous bay, and which

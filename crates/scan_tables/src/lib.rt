@@ -2,9 +2,9 @@
 ghost use mathlib.Core.Path.{_≡_};
 ghost use Prim.Native.Nat.{_*_, _≤_};
 ghost use lib.ListN.{length, getD, take};
-ghost use Rattle.scan_order.specs.Scan.{numberAt};
+ghost use Rattle.scan_order.specs.Scan.{byRows, window, numberAt};
 ghost use Rattle.ledger_rows.specs.Blocks.{tab};
-ghost use Rattle.scan_tables.specs.Order.{scanSets, byRows, window};
+ghost use Rattle.scan_tables.specs.Order.{scanSets};
 use scan_order::bay_at;
 use scan_order::number_at;
 

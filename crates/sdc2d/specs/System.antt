@@ -34,6 +34,10 @@ system sizes strandGlues scaffold deltaG entropy logs seeds =
       seeds = seeds;
     }
 
+-- how many bays a grid has
+abbrev pub bays : Sizes → ℕ
+bays z = z .rows * z .cols
+
 -- from 1 to `most`
 abbrev pub inRange : (n most : ℕ) → Bool
 inRange n most = leb 1 n && leb n most

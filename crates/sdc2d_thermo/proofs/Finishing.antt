@@ -26,7 +26,7 @@ use Rattle.ledger_rows.specs.Blocks.{need, energyTable, noteTable}
 use Rattle.ledger_rows.specs.Trace.{answer, layout}
 use Rattle.ledger_fill.specs.Handed.{addedOf, setScan, runScan, capped}
 use Rattle.ledger_rows.proofs.SameStrands.{need-same}
-use Rattle.scan_tables.specs.Order.{window}
+use Rattle.scan_order.specs.Scan.{window}
 use Rattle.bay_block.specs.Block.{over}
 use Rattle.run_room.specs.Room.{roomVerdict}
 use Rattle.least_layout.specs.Run.{rowByRow}

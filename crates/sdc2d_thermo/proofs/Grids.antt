@@ -16,14 +16,14 @@ use Rattle.bay_lists.specs.Lists.{Constraints, offsetsShaped}
 use Rattle.legal_at.specs.Legal.{isLegal}
 use Rattle.legal_at.specs.OnGrid.{Grid}
 use Rattle.legal_at.proofs.Sound.{sound}
-use Rattle.scan_order.specs.Scan.{bayAt}
+use Rattle.scan_order.specs.Scan.{window, bayAt}
 use Rattle.legal.specs.Sets.{bays, setsTo, setsOf, shapeVerdict, emptyVerdict}
 use Rattle.legal.proofs.Answered.{right}
 use Rattle.legal.proofs.Fronts.{front-fits, length-sets}
 use Rattle.scan_order.proofs.Scanned.{bay-inside}
 use Rattle.ledger_rows.specs.Scan.{Filled}
 use Rattle.ledger_fill.specs.Handed.{setScan}
-use Rattle.scan_tables.specs.Order.{window, scanSets}
+use Rattle.scan_tables.specs.Order.{scanSets}
 use Rattle.run_tables.specs.Tables.{Stocked}
 use Rattle.least_layout.specs.Run.{systemScan}
 use Rattle.system_run.specs.Steps.{OnBoard}

@@ -10,14 +10,13 @@ use lib.ListN.{length, getD}
 use borrow.Author.Tests.{not-true, not-false}
 use Rattle.beta_energies.specs.Energies.{noEnergy}
 use Rattle.beta_energies.proofs.Laws.{no-energy-is}
-use Rattle.scan_order.specs.Scan.{numberAt}
+use Rattle.scan_order.specs.Scan.{window, numberAt}
 use Rattle.ledger_rows.specs.Scan.{Scan}
 use Rattle.ledger_rows.specs.Blocks.{tab}
 use Rattle.ledger_rows.specs.Trace.{answer, answerRow, layout}
 use Rattle.ledger_fill.specs.Handed.{runScan}
 use Rattle.way_back.specs.Tracing.{inOrder}
 use Rattle.ledger.specs.Run.{ifAnswered, energiesAfter, notesAfter, orderAfter}
-use Rattle.scan_tables.specs.Order.{window}
 use Rattle.least_layout.specs.Run.{rowByRow}
 use Rattle.system_run.specs.Steps.{OnBoard, Ran}
 use Rattle.system_run.proofs.Ordered.{length-trace, laid-out}

@@ -4,7 +4,7 @@ ghost use mathlib.Core.Bool.{not};
 ghost use Prim.Native.Nat.{_*_, _≤_};
 ghost use lib.ListN.{length, take};
 ghost use Rattle.bonds.specs.Readable.{Readable};
-ghost use Rattle.scan_tables.specs.Order.{byRows, window};
+ghost use Rattle.scan_order.specs.Scan.{byRows, window};
 ghost use Rattle.run_tables.specs.Tables.{bondTable, siteTable, Stocked};
 ghost use Rattle.ledger_rows.specs.Scan.{Filled};
 ghost use Rattle.ledger_rows.specs.Blocks.{need};

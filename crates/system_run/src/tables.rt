@@ -1,7 +1,7 @@
 // The run over tables: the ledger, then the layout row by row.
 ghost use mathlib.Core.Path.{_≡_};
 ghost use lib.ListN.{length};
-ghost use Rattle.scan_tables.specs.Order.{window};
+ghost use Rattle.scan_order.specs.Scan.{window};
 ghost use Rattle.ledger_fill.specs.Handed.{runScan, Fillable};
 ghost use Rattle.system_run.specs.Steps.{OnBoard, Ran};
 use beta_energies::no_energy;

@@ -1,7 +1,7 @@
 -- `row_choice::own_adds` meets its contract: the bond to the major line first, then the bond to the bay before. Assumes nothing.
 use mathlib.Core.Path.{ap, _∙_}
 use borrow.Author.Needs.{needs}
-use Rattle.row_choice.specs.Row.{withBond}
+use Rattle.beta_energies.specs.ScanSum.{withBond}
 use Rattle.row_choice.proofs.own_adds.Statement.{statement}
 use Rattle.row_choice.proofs.own_adds.Tie as tie
 

@@ -11,7 +11,7 @@ use Rattle.units.specs.Refusals.{check}
 use Rattle.ledger_rows.specs.Scan.{Scan}
 use Rattle.ledger_rows.specs.Blocks.{need}
 use Rattle.ledger_fill.specs.Handed.{runScan, capped}
-use Rattle.scan_tables.specs.Order.{byRows, window}
+use Rattle.scan_order.specs.Scan.{byRows, window}
 use Rattle.run_tables.specs.Tables.{bondTable, siteTable}
 use Rattle.run_room.specs.Room.{roomVerdict}
 use Rattle.sdc2d_thermo.proofs.Finishing.{stop, finish, need-of, room-by-cap, some-side, roomy}

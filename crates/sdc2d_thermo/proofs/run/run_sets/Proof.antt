@@ -5,13 +5,12 @@ use mathlib.Core.List.{List}
 use lib.ListN.{length, getD, take}
 use denote.Ref.{now}
 use borrow.Author.Needs.{needs}
-use Rattle.scan_order.specs.Scan.{bayAt}
+use Rattle.scan_order.specs.Scan.{window, bayAt}
 use Rattle.legal.proofs.Fronts.{front-fits}
 use Rattle.ledger_rows.specs.Scan.{Filled}
 use Rattle.ledger_rows.specs.Blocks.{need}
 use Rattle.ledger_rows.proofs.Lists.{length-tab}
 use Rattle.ledger_fill.specs.Handed.{setScan}
-use Rattle.scan_tables.specs.Order.{window}
 use Rattle.run_room.specs.Room.{roomVerdict}
 use Rattle.least_layout.specs.Run.{tableScan}
 use Rattle.sdc2d_thermo.specs.Steps.{Finished}

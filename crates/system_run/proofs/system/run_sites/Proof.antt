@@ -8,11 +8,10 @@ use lib.Ieee.{Float}
 use lib.ListN.{length, take}
 use denote.Ref.{now}
 use borrow.Author.Needs.{needs}
-use Rattle.scan_order.specs.Scan.{bayAt}
+use Rattle.scan_order.specs.Scan.{window, bayAt}
 use Rattle.legal.proofs.Fronts.{front-fits}
 use Rattle.ledger_rows.proofs.Lists.{length-tab}
 use Rattle.ledger_fill.specs.Handed.{runScan}
-use Rattle.scan_tables.specs.Order.{window}
 use Rattle.run_tables.specs.Tables.{siteEnergy}
 use Rattle.system_run.specs.Steps.{Ran}
 use Rattle.system_run.proofs.Boards.{few-bays}

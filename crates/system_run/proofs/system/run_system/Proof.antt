@@ -6,7 +6,7 @@ use lib.Ieee.{Float}
 use denote.Ref.{now}
 use borrow.Author.Needs.{needs}
 use Rattle.ledger_fill.specs.Handed.{runScan}
-use Rattle.scan_tables.specs.Order.{window}
+use Rattle.scan_order.specs.Scan.{window}
 use Rattle.run_tables.specs.Tables.{bondTable, siteTable}
 use Rattle.system_run.proofs.RanOver.{ran-same}
 use Rattle.system_run.proofs.system.run_system.Statement.{statement}

@@ -1,0 +1,25 @@
+-- Legal layouts, and legal fillings of the first bays in scan order. Assumes nothing.
+use Prim.Native.Nat.{ℕ, _<_}
+use mathlib.Core.Path.{_≡_}
+use mathlib.Core.Bool.{true}
+use mathlib.Core.List.{List}
+use lib.ListN.{length, getD}
+use Rattle.sets.specs.Set.{members}
+use Rattle.sdc2d.specs.System.{System, bays}
+use Rattle.bay_lists.specs.Lists.{Constraints}
+use Rattle.scan_order.specs.Scan.{bayAt}
+use Rattle.legal_at.specs.Legal.{isLegal}
+
+-- a strand for each bay, row by row, each legal where it lies
+pub record LegalLayout (s : System) (c : Constraints) (layout : List ℕ) : Type 0 where
+  pub long : length layout ≡ bays (s .sizes)
+  pub each : (bay : ℕ) → bay < bays (s .sizes) → isLegal s c bay (getD layout bay 0) ≡ true
+
+-- a strand for each of the first k bays in scan order, each legal where it lies
+pub record LegalFilling (s : System) (c : Constraints) (k : ℕ) (filling : List ℕ) : Type 0 where
+  pub long : length filling ≡ k
+  pub each : (j : ℕ) → j < k → isLegal s c (bayAt (s .sizes .rows) (s .sizes .cols) j) (getD filling j 0) ≡ true
+
+-- the legal strands of the bay that is scanned as number k, by rising number
+abbrev pub legalStrands : System → Constraints → (k : ℕ) → List ℕ
+legalStrands s c k = members (isLegal s c (bayAt (s .sizes .rows) (s .sizes .cols) k)) (s .sizes .strands)
