@@ -5,8 +5,8 @@ use mathlib.Core.Bool.{Bool}
 use mathlib.Core.List.{List, [], _∷_, _++_}
 use native.Mathlib.Numerals.{add-one}
 use native.Mathlib.Omega.{arith}
-use lib.ListN.{length, getD, set, take, length-append, length-take}
-use lib.Seq.{take-suc, take-suc-set}
+use lib.ListN.{length, getD, set, take, drop, length-append, length-take}
+use lib.Seq.{take-suc, take-suc-set, drop-set-lt, drop-drop}
 use Rattle.sets.specs.Set.{word}
 use Rattle.legal.specs.Sets.{setsTo}
 
@@ -20,6 +20,10 @@ pub set-more : (legal : ℕ → ℕ → Bool) (table : List ℕ) (bay w : ℕ) �
 unfolding setsTo
 set-more legal table bay w e h made =
     rw (add-one bay) (take-suc-set table bay w h ∙ ap₂ (λ (front : List ℕ) (x : ℕ). front ++ (x ∷ [])) e made)
+
+-- what stands behind the element that is written stays
+pub rest-stays : (table old : List ℕ) (i w : ℕ) → drop i table ≡ drop i old → drop (i + 1) (set table i w) ≡ drop (i + 1) old
+rest-stays table old i w e = drop-set-lt (i + 1) table i w (omega arith) ∙ sym (drop-drop 1 i table) ∙ ap (drop 1) e ∙ drop-drop 1 i old
 
 -- as many sets as bays
 pub length-sets : (legal : ℕ → ℕ → Bool) (n : ℕ) → length (setsTo legal n) ≡ n

@@ -1,19 +1,32 @@
--- Refusal 7 comes exactly where a bay has no legal strand, and with the first such bay in scan order; and the sets bay by bay. Assumes nothing.
+-- The sets bay by bay; and refusal 7 comes exactly where a bay has no legal strand, with the first such bay in scan order: the theorem stands last.
+-- Assumes nothing.
 use Prim.Native.Nat.{ℕ, zero, suc, _+_, _*_, _≤_, _<_}
 use mathlib.Core.Path.{_≡_, refl, sym, _∙_, ap, subst}
-use mathlib.Core.Bool.{Bool, true, false, cond}
+use mathlib.Core.Bool.{Bool, true, false, cond, true≢false}
 use mathlib.Core.List.{List, [], _∷_, _++_}
+use native.Mathlib.Decide.{decLt}
 use native.Mathlib.Omega.{arith}
 use lib.Dec.{eqb, ltb}
-use lib.ListN.{length, getD, List·getD-append}
+use lib.ListN.{getD, List·getD-append}
 use lib.Seq.{getD-append-seam}
 use borrow.Author.Tests.{eqb-true, eqb-false, ltb-true, ltb-false, lt-ltb}
-use Rattle.units.specs.Refusals.{Verdict, refuses, refuseIf}
-use Rattle.sets.specs.Set.{word}
+use Rattle.units.specs.Refusals.{passes, refuses, refuseIf}
+use Rattle.sets.specs.Set.{has, word, nextOf}
+use Rattle.sets.proofs.Bits.{has-beyond}
+use Rattle.sets.proofs.NextMember.{is-false, next}
+use Rattle.sets.proofs.Operations.{word-none}
+use Rattle.sets.proofs.Words.{word-same, has-word}
+use Rattle.sdc2d.specs.declared.sizes.Sizes.{Sizes}
+use Rattle.sdc2d.specs.System.{System, systemVerdict}
+use Rattle.sdc2d.proofs.Fine.{fine}
+use Rattle.bay_lists.specs.Lists.{Constraints}
+use Rattle.legal_at.specs.Legal.{isLegal}
+use Rattle.legal_at.proofs.StrandBelow.{strand-below}
 use Rattle.scan_order.specs.Scan.{bayAt, numberAt}
-use Rattle.legal.specs.Sets.{setsTo, firstEmpty, emptyVerdict}
+use Rattle.scan_order.proofs.Scanned.{bay-inside, number-inside, scanned, numbered}
+use Rattle.legal.specs.Sets.{bays, setsTo, firstEmpty, emptyVerdict}
+use Rattle.legal.specs.Seven.{SomeStrand, FirstWithoutStrand, sevenVerdict, SevenTheorem}
 use Rattle.legal.proofs.Fronts.{length-sets}
-use Rattle.scan_order.proofs.Scanned.{number-inside, scanned}
 
 module _ (rows cols : ℕ) (sets : List ℕ) where
   -- the set of the bay that is scanned as number k
@@ -79,3 +92,111 @@ set-of-bay legal (suc n) bay h = by (ltb bay n) refl (set-of-bay legal n bay)
     by false e before =
         let last : bay ≡ n = omega (arith, h, ltb-false bay n e) in
         ap (λ (k : ℕ). getD (setsTo legal n ++ (word (legal n) 64 ∷ [])) k 0) (last ∙ sym (length-sets legal n)) ∙ getD-append-seam (setsTo legal n) (word (legal n) 64) [] 0 ∙ ap (λ (k : ℕ). word (legal k) 64) (sym last)
+
+-- ---- in the words of what is legal
+
+-- a set without strands is 0, and 0 is without strands
+no-strand : (p : ℕ → Bool) → ((t : ℕ) → p t ≡ false) → word p 64 ≡ 0
+no-strand p none = word-same p (λ t. false) 64 (λ t h. none t) ∙ word-none 64
+
+no-member : (p : ℕ → Bool) → word p 64 ≡ 0 → (t : ℕ) → t < 64 → p t ≡ false
+no-member p e t h = sym (has-word p 64 t h) ∙ ap (λ (w : ℕ). has w t) e ∙ has-beyond 0 0 t (omega arith) (omega arith)
+
+-- any other set has one, its lowest
+some-member : (p : ℕ → Bool) → (word p 64 ≡ 0 → ⊥) → (t : ℕ) × (p t ≡ true)
+some-member p some = by (decLt (nextOf p 0 64) 64)
+  where
+    by : Dec (nextOf p 0 64 < 64) → (t : ℕ) × (p t ≡ true)
+    by (yes h) = (nextOf p 0 64, next p 0 64 .lands h .1)
+    by (no h) = absurd (some (word-same p (λ t. false) 64 (λ t l. next p 0 64 .skips t (omega arith) (omega (arith, h, l))) ∙ word-none 64))
+
+module _ (z : Sizes) (legal : ℕ → ℕ → Bool) (few : (bay strand : ℕ) → legal bay strand ≡ true → strand < 64) where
+  abbrev sets : List ℕ
+  sets = setsTo legal (bays z)
+
+  -- the number in the scan of the first bay whose set is empty, if there is one
+  abbrev found : ℕ
+  found = firstEmpty (z .rows) (z .cols) sets 0 (bays z)
+
+  none-legal : (bay : ℕ) → bay < bays z → getD sets bay 0 ≡ 0 → (strand : ℕ) → legal bay strand ≡ false
+  none-legal bay h e strand =
+      is-false (legal bay strand)
+      (λ is. true≢false (sym is ∙ no-member (legal bay) (sym (set-of-bay legal (bays z) bay h) ∙ e) strand (few bay strand is)))
+
+  some-legal : (bay : ℕ) → bay < bays z → (getD sets bay 0 ≡ 0 → ⊥) → SomeStrand legal bay
+  some-legal bay h some = some-member (legal bay) (λ e. some (set-of-bay legal (bays z) bay h ∙ e))
+
+  not-both : (bay : ℕ) → bay < bays z → SomeStrand legal bay → getD sets bay 0 ≡ 0 → ⊥
+  not-both bay h some e = true≢false (sym (some .1) ∙ none-legal bay h e (some .0))
+
+  -- the bay that the search found is the first in scan order without a strand
+  found-first : found < bays z → FirstWithoutStrand z legal (bayAt (z .rows) (z .cols) found)
+  found-first h =
+      let here = first-without (z .rows) (z .cols) sets 0 (bays z) (omega (arith, h)) in
+      let inside = bay-inside (z .rows) (z .cols) found h in
+      record {
+        inside = inside;
+        none-legal = none-legal (bayAt (z .rows) (z .cols) found) inside (here .is-empty);
+        some-before = λ other l before. some-legal other l
+            (λ e. here .none-before (numberAt (z .rows) (z .cols) other) (omega arith) (omega (arith, before, numbered (z .rows) (z .cols) found h))
+            (ap (λ (b : ℕ). getD sets b 0) (scanned (z .rows) (z .cols) other l) ∙ e));
+      }
+
+  -- the first in scan order without a strand is the bay that the search finds
+  first-found : (bay : ℕ) → FirstWithoutStrand z legal bay → sevenVerdict z legal ≡ refuses 7 (bay ∷ [])
+  first-found bay f =
+      let rows = z .rows in
+      let cols = z .cols in
+      let empty : getD sets bay 0 ≡ 0 = set-of-bay legal (bays z) bay (f .inside) ∙ no-strand (legal bay) (f .none-legal) in
+      let refused = seven rows cols sets bay (f .inside) empty in
+      let number = number-inside rows cols bay (f .inside) in
+      let here : scannedSet rows cols sets (numberAt rows cols bay) ≡ 0 = ap (λ (b : ℕ). getD sets b 0) (scanned rows cols bay (f .inside)) ∙ empty in
+      let most : found ≤ numberAt rows cols bay = not-after rows cols sets 0 (bays z) (numberAt rows cols bay) (omega arith) (omega (arith, number)) here in
+      let inside : found < bays z = omega (arith, most, number) in
+      let same : found ≡ numberAt rows cols bay = by most inside (refused .1) (decLt found (numberAt rows cols bay)) in
+      refused .0 ∙ ap (λ (b : ℕ). refuses 7 (b ∷ [])) (ap (bayAt rows cols) same ∙ scanned rows cols bay (f .inside))
+    where
+      by : found ≤ numberAt (z .rows) (z .cols) bay → found < bays z → FirstWithout (z .rows) (z .cols) sets 0 found
+          → Dec (found < numberAt (z .rows) (z .cols) bay) → found ≡ numberAt (z .rows) (z .cols) bay
+      by most inside here (no h) = omega (arith, most, h)
+      by most inside here (yes h) =
+          let other = bayAt (z .rows) (z .cols) found in
+          let on-grid = bay-inside (z .rows) (z .cols) found inside in
+          absurd (not-both other on-grid (f .some-before other on-grid (omega (arith, h, numbered (z .rows) (z .cols) found inside))) (here .is-empty))
+
+  -- what the verdict tells of the search
+  refused-found : (bay : ℕ) → sevenVerdict z legal ≡ refuses 7 (bay ∷ []) → (b : Bool) → ltb found (bays z) ≡ b → FirstWithoutStrand z legal bay
+  refused-found bay e true t =
+      let same : refuses 7 (bayAt (z .rows) (z .cols) found ∷ []) ≡ refuses 7 (bay ∷ []) =
+      sym (ap (λ (b : Bool). refuseIf b 7 (bayAt (z .rows) (z .cols) found ∷ [])) t) ∙ e in
+      subst (FirstWithoutStrand z legal) (cc) (found-first (ltb-true found (bays z) t))
+  refused-found bay e false t =
+      let never : passes ≡ refuses 7 (bay ∷ []) = sym (ap (λ (b : Bool). refuseIf b 7 (bayAt (z .rows) (z .cols) found ∷ [])) t) ∙ e in
+      let clash : _≡_ {A = ℕ} 0 1 = cc in
+      absurd (omega arith)
+
+  passed-some : sevenVerdict z legal ≡ passes → (bay : ℕ) → bay < bays z → SomeStrand legal bay
+  passed-some e bay h =
+      some-legal bay h
+      (λ empty. let never : passes ≡ refuses 7 (bayAt (z .rows) (z .cols) found ∷ []) = sym e ∙ seven (z .rows) (z .cols) sets bay h empty .0 in
+      let clash : _≡_ {A = ℕ} 0 1 = cc in
+      omega arith)
+
+  some-passes : ((bay : ℕ) → bay < bays z → SomeStrand legal bay) → (b : Bool) → ltb found (bays z) ≡ b → sevenVerdict z legal ≡ passes
+  some-passes all true t =
+      let f = found-first (ltb-true found (bays z) t) in
+      let some = all (bayAt (z .rows) (z .cols) found) (f .inside) in
+      absurd (true≢false (sym (some .1) ∙ f .none-legal (some .0)))
+  some-passes all false t = ap (λ (b : Bool). refuseIf b 7 (bayAt (z .rows) (z .cols) found ∷ [])) t
+
+  pub seven-exactly : SevenTheorem z legal
+  seven-exactly =
+      record {
+        refused = λ bay. (λ e. refused-found bay e (ltb found (bays z)) refl, first-found bay);
+        passed = (passed-some, λ all. some-passes all (ltb found (bays z)) refl);
+      }
+
+-- THE THEOREM of refusal 7, of a system that passed its tests
+pub seven-of-a-system : (s : System) (c : Constraints) → systemVerdict s ≡ passes → SevenTheorem (s .sizes) (isLegal s c)
+seven-of-a-system s c e =
+    seven-exactly (s .sizes) (isLegal s c) (λ bay strand is. omega (arith, strand-below s c bay strand is, fine s e .shape .sizes .strands))

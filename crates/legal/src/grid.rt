@@ -2,7 +2,7 @@
 ghost use mathlib.Core.Path.{_≡_};
 ghost use mathlib.Core.Bool.{true};
 ghost use Prim.Native.Nat.{_*_, _≤_};
-ghost use lib.ListN.{length, take};
+ghost use lib.ListN.{length, take, drop};
 ghost use Rattle.units.specs.Refusals.{check};
 ghost use Rattle.legal_at.specs.Legal.{legalAt};
 ghost use Rattle.bay_lists.specs.Lists.{constraints, offsetsShaped};
@@ -14,7 +14,7 @@ use sdc2d::Sizes;
 use units::Check;
 use units::Refusal;
 
-// Writes the sets of all bays, row by row, to the front of a table.
+// Writes the sets of all bays, row by row, to the front of a table; the rest of it stays.
 fn fill_sets(
     z: Sizes,
     strand_glues: &[u32],
@@ -30,7 +30,8 @@ fn fill_sets(
     requires { ⌜ Grid z (now «strand_glues») (now scaffold) (now «delta_g») (now entropy) (now seeds) ⌝ }
     requires { ⌜ offsetsShaped (length (now scaffold)) (constraints constrained (now offsets) (now tiles)) ≡ true ⌝ }
     requires { ⌜ length (now scaffold) ≤ length (now sets) ⌝ }
-    ensures { λ _. ⌜ take (length (now (scaffold .entry))) (now (sets .exit)) ≡ setsTo (legalAt z (now («strand_glues» .entry)) (now (scaffold .entry)) (now («delta_g» .entry)) (now (entropy .entry)) (now (seeds .entry)) (constraints constrained (now (offsets .entry)) (now (tiles .entry)))) (length (now (scaffold .entry))) ⌝ }
+    ensures sets { λ _. ⌜ take (length (now (scaffold .entry))) (now (sets .exit)) ≡ setsTo (legalAt z (now («strand_glues» .entry)) (now (scaffold .entry)) (now («delta_g» .entry)) (now (entropy .entry)) (now (seeds .entry)) (constraints constrained (now (offsets .entry)) (now (tiles .entry)))) (length (now (scaffold .entry))) ⌝ }
+    ensures rest { λ _. ⌜ drop (length (now (scaffold .entry))) (now (sets .exit)) ≡ drop (length (now (scaffold .entry))) (now (sets .entry)) ⌝ }
 {
     let mut bay = 0;
     while bay < scaffold.len() {
@@ -81,7 +82,7 @@ fn check_empty(rows: usize, cols: usize, sets: &[u64]) -> Check
     Check::Passed
 }
 
-// Writes the sets of a system that passed its tests to the front of a table, and refuses 7.
+// Writes the sets of a system that passed its tests to the front of a table, the rest of which stays, and refuses 7.
 pub fn grid_sets(
     z: Sizes,
     strand_glues: &[u32],
@@ -100,6 +101,7 @@ pub fn grid_sets(
     requires { ⌜ length (now scaffold) ≤ length (now sets) ⌝ }
     ensures sets { λ _. ⌜ take (length (now (scaffold .entry))) (now (sets .exit)) ≡ setsTo (legalAt z (now («strand_glues» .entry)) (now (scaffold .entry)) (now («delta_g» .entry)) (now (entropy .entry)) (now (seeds .entry)) (constraints constrained (now (offsets .entry)) (now (tiles .entry)))) (length (now (scaffold .entry))) ⌝ }
     ensures answer { λ r. ⌜ r ≡ check (emptyVerdict (z .rows) (z .cols) (setsTo (legalAt z (now («strand_glues» .entry)) (now (scaffold .entry)) (now («delta_g» .entry)) (now (entropy .entry)) (now (seeds .entry)) (constraints constrained (now (offsets .entry)) (now (tiles .entry)))) (length (now (scaffold .entry))))) ⌝ }
+    ensures rest { λ _. ⌜ drop (length (now (scaffold .entry))) (now (sets .exit)) ≡ drop (length (now (scaffold .entry))) (now (sets .entry)) ⌝ }
 {
     fill_sets(
         z,

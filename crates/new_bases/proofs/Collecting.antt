@@ -3,12 +3,12 @@ use Prim.Native.Nat.{ℕ, suc, _+_, _*_, _-_, _≤_, _<_}
 use mathlib.Core.Path.{_≡_, refl, ap, ap₂, sym, _∙_}
 use mathlib.Core.Bool.{true, false, _&&_}
 use mathlib.Core.List.{List, [], _∷_, _++_, append-assoc}
-use native.Mathlib.Nat.{lt-of-not-le}
+use native.Mathlib.Nat.{lt-of-not-le, le-of-lt}
 use native.Mathlib.Decide.{decLe}
 use native.Mathlib.Omega.{arith}
 use lib.Dec.{ltb, eqb}
 use lib.ListN.{length, getD, take, drop, replicate, length-append, length-replicate, List·getD-append}
-use lib.Seq.{take-append-seam, drop-append-add, getD-at}
+use lib.Seq.{take-all, take-at, take-append-le, take-append-seam, drop-append-add, getD-at}
 use borrow.Author.Tests.{lt-ltb, le-ltb, ltb-false}
 use Rattle.units.specs.declared.Refusal.{Refusal}
 use Rattle.units.specs.declared.CountAnswer.{CountAnswer}
@@ -42,23 +42,24 @@ is-count : (v : Verdict) (m : ℕ) {c : ℕ} → Count c ≡ countAnswer v m →
 is-count passes m e = (refl, cc)
 is-count (refuses number values) m e = (cc, cc)
 
--- an answer that is a refusal does not go by the count, and has not passed
+-- an answer that is a refusal does not go by the count
 any-count : (v : Verdict) (m o : ℕ) {q : Refusal} → countAnswer v m ≡ Refused q → countAnswer v o ≡ Refused q
 any-count passes m o e = cc
 any-count (refuses number values) m o e = e
 
-not-both : (v : Verdict) (m : ℕ) {q : Refusal} → countAnswer v m ≡ Refused q → v ≡ passes → ⊥
-not-both v m e p = let z : _≡_ {A = ℕ} 0 1 = cc (ap (λ w. countAnswer w m) p) in omega arith
-
--- a refusal stays, whatever is brought later
-refused-stays : (es rest : List ℕ) (m : ℕ) {q : Refusal} → countAnswer (countVerdict es) m ≡ Refused q → countVerdict (es ++ rest) ≡ countVerdict es
-refused-stays es rest m e = elim (decLe (length es) 127) [ yes few ↦ cc (ap (λ v. countAnswer v m) (few-pass es few)) | no many ↦ late (lt-of-not-le many) ]
+-- so more than 127 were brought, and a refusal stays, whatever is brought later
+refused-many : (es : List ℕ) (m : ℕ) {q : Refusal} → countAnswer (countVerdict es) m ≡ Refused q → 127 < length es
+refused-many es m e = elim (decLe (length es) 127) [ yes few ↦ absurd (never (ap (λ v. countAnswer v m) (few-pass es few))) | no many ↦ lt-of-not-le many ]
   where
-    late : 127 < length es → countVerdict (es ++ rest) ≡ countVerdict es
-    late many =
-        many-refused (es ++ rest) (rw (length-append es rest) (omega arith))
-        ∙ ap (λ entry. refuses 15 (entry ∷ [])) (List·getD-append es rest 0 127 many)
-        ∙ sym (many-refused es many)
+    never : countAnswer (countVerdict es) m ≡ Count m → ⊥
+    never f = let clash : _≡_ {A = ℕ} 0 1 = cc in omega arith
+
+refused-stays : (es rest : List ℕ) (m : ℕ) {q : Refusal} → countAnswer (countVerdict es) m ≡ Refused q → countVerdict (es ++ rest) ≡ countVerdict es
+refused-stays es rest m e =
+    let many = refused-many es m e in
+    many-refused (es ++ rest) (rw (length-append es rest) (omega arith))
+    ∙ ap (λ entry. refuses 15 (entry ∷ [])) (List·getD-append es rest 0 127 many)
+    ∙ sym (many-refused es many)
 
 -- two numbers behind k others, in a list of zeros from there on
 put-behind : (front : List ℕ) (a b k m : ℕ) → length front ≡ k
@@ -111,7 +112,7 @@ module _ (n : Names) where
       let es = firstsTo n k in
       record {
         answered = ap Count (h .counted) ∙ sym (ap (λ v. countAnswer v (length es)) (few-pass es (omega (arith, h .few, h .counted))));
-        list = λ e. h .list;
+        list = h .list ∙ sym (ap (basesTable n) (take-all 127 es (omega (arith, h .few, h .counted))));
       }
 
   -- one entry more in the table
@@ -148,7 +149,7 @@ module _ (n : Names) where
         let size : length es ≡ 127 = sym (h .counted) ∙ l in
         let refused : countVerdict (firstsTo n (i + 1)) ≡ refuses 15 (i ∷ []) =
         rw one (many-refused (es ++ (i ∷ [])) (rw (length-append es (i ∷ [])) (omega arith)) ∙ ap (λ entry. refuses 15 (entry ∷ [])) (getD-at es i [] 0 127 size)) in
-        record { answered = rw refused; list = λ p. cc }
+        record { answered = rw refused; list = h .list ∙ sym (ap (λ entries. basesTable n (take 127 entries)) one ∙ ap (basesTable n) (take-at es (i ∷ []) 127 size)) }
 
     pub more : isNew n bases c i ≡ true → (c ≡ 127 → ⊥) → {new : List ℕ} (offset size : ℕ) → offset ≡ getD (n .offsets) i 0 → size ≡ baseLength (nameAt n i)
         → new ≡ take (c + c) bases ++ (offset ∷ size ∷ drop (c + c + 2) bases) → Collected n (i + 1) new (Count (c + 1))
@@ -168,9 +169,9 @@ module _ (n : Names) where
   goes-on k d e =
       let es = firstsTo n k in
       let both = is-count (countVerdict es) (length es) (sym e ∙ d .answered) in
-      record { few = omega (arith, both .1, passed-few es (both .0)); counted = both .1; list = d .list (both .0) }
+      record { few = omega (arith, both .1, passed-few es (both .0)); counted = both .1; list = d .list ∙ ap (basesTable n) (take-all 127 es (passed-few es (both .0))) }
 
-  pub stops : (i k : ℕ) {bases new : List ℕ} {r : CountAnswer} {q : Refusal} → Collected n i bases r → r ≡ Refused q → i ≤ k → Collected n k new r
+  pub stops : (i k : ℕ) {bases : List ℕ} {r : CountAnswer} {q : Refusal} → Collected n i bases r → r ≡ Refused q → i ≤ k → Collected n k bases r
   stops i k d e l =
       let es = firstsTo n i in
       let grow = firsts-grow n i (k - i) in
@@ -180,5 +181,5 @@ module _ (n : Names) where
       let same = ap countVerdict later ∙ refused-stays es (grow .0) (length es) before in
       record {
         answered = e ∙ sym (ap (λ v. countAnswer v (length (firstsTo n k))) same ∙ any-count (countVerdict es) (length es) (length (firstsTo n k)) before);
-        list = λ p. absurd (not-both (countVerdict es) (length es) before (sym same ∙ p));
+        list = d .list ∙ sym (ap (λ entries. basesTable n (take 127 entries)) later ∙ ap (basesTable n) (take-append-le 127 es (grow .0) (le-of-lt (refused-many es (length es) before))));
       }

@@ -2,9 +2,8 @@
 use Prim.Native.Nat.{ℕ, _≤_}
 use mathlib.Core.Path.{_≡_}
 use mathlib.Core.List.{List}
-use lib.ListN.{length}
+use lib.ListN.{length, take}
 use Rattle.units.specs.declared.CountAnswer.{CountAnswer}
-use Rattle.units.specs.Refusals.{passes}
 use Rattle.units.specs.Answers.{countAnswer}
 use Rattle.glue_names.specs.Names.{Names}
 use Rattle.new_bases.specs.Bases.{firstsTo, basesTable, countVerdict}
@@ -15,7 +14,7 @@ pub record Holds (n : Names) (k : ℕ) (bases : List ℕ) (count : ℕ) : Type 0
   pub counted : count ≡ length (firstsTo n k)
   pub list : bases ≡ basesTable n (firstsTo n k)
 
--- the answer on the first k entries, with their bases where they are not too many
+-- the answer on the first k entries, and their bases: all, or the first 127 where they are too many
 pub record Collected (n : Names) (k : ℕ) (bases : List ℕ) (answer : CountAnswer) : Type 0 where
   pub answered : answer ≡ countAnswer (countVerdict (firstsTo n k)) (length (firstsTo n k))
-  pub list : countVerdict (firstsTo n k) ≡ passes → bases ≡ basesTable n (firstsTo n k)
+  pub list : bases ≡ basesTable n (take 127 (firstsTo n k))

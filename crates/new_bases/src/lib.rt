@@ -72,7 +72,7 @@ fn get_or_generate(
     CountAnswer::Count(count + 1)
 }
 
-// The count of bases that the entries bring, and the bases, written into 254 zeros.
+// The count of bases that the entries bring, and the bases, written into 254 zeros: the first 127 where they are too many.
 pub fn collect(text: &[u8], offsets: &[usize], present: &[u8], bases: &mut [usize]) -> CountAnswer
     requires { ⌜ Readable (names (now text) (now offsets) (now present)) ⌝ }
     requires { ⌜ now bases ≡ replicate 254 0 ⌝ }

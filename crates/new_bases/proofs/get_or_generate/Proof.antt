@@ -1,6 +1,7 @@
 -- `new_bases::get_or_generate` meets its contract: entry i is known, or one too many, or written. Assumes nothing.
 use mathlib.Core.Path.{refl, sym, _∙_, ap}
 use native.Mathlib.Nat.{le-of-lt}
+use native.Mathlib.Omega.{arith}
 use denote.Ref.{now}
 use borrow.Author.Needs.{needs}
 use borrow.Author.Tests.{not-true, not-false}
@@ -33,7 +34,8 @@ same-length-2 c = search needs
 returns-2 : tie.Need-returns-2
 returns-2 c =
     let s = c .before .before .before .before .before .before .before .before in
-    full (given s) (s .args .i) (s .args .count) (now (s .args .bases)) (s .pre .1 .1) (sym (c .before .before .is-new .ensures) ∙ not-false _ (c .before .if1 .left)) (c .if2 .taken)
+    full (given s) (s .args .i) (s .args .count) (now (s .args .bases)) (s .pre .1 .1) (sym (c .before .before .is-new .ensures) ∙ not-false _ (c .before .if1 .left))
+    (omega (arith, c .if2 .taken, s .pre .1 .1 .few))
 
 mul-put-base : tie.Need-mul-put-base
 mul-put-base c = search needs
@@ -50,7 +52,7 @@ base-length-requires c κs = search needs
 put-base-requires : tie.Need-put-base-requires
 put-base-requires c κs =
     let s = c .before .before .before .before .before .before .before .before .before .before .before .before in
-    room (given s) (s .args .i) (s .args .count) (now (s .args .bases)) (s .pre .1 .1) (c .before .before .before .before .if2 .left)
+    room (given s) (s .args .i) (s .args .count) (now (s .args .bases)) (s .pre .1 .1) (λ e. omega (arith, e, c .before .before .before .before .if2 .left))
 
 add-t15 : tie.Need-add-t15
 add-t15 c = search needs
@@ -64,7 +66,7 @@ returns-3 c =
     let s = put .before .before .before .before .before .before .before .before .before .before .before .before .before in
     more (given s) (s .args .i) (s .args .count) (now (s .args .bases)) (s .pre .1 .1)
     (sym (put .before .before .before .before .before .before .before .is-new .ensures) ∙ not-false _ (put .before .before .before .before .before .before .if1 .left))
-    (put .before .before .before .before .before .if2 .left)
+    (λ e. omega (arith, e, put .before .before .before .before .before .if2 .left))
     _
     _
     refl

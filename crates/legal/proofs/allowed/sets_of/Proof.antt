@@ -41,7 +41,7 @@ returns : tie.Need-returns
 returns c =
     let filled = c .before .before .before .before in
     let s = filled .before .before .before .before .before .before .before .before .before .before in
-    worked-refused (s .args .z .rows) (s .args .z .cols) (sets s) (now (s .args .sets)) (filled .grid-sets .ensures .1) (c .before .r .given .1)
+    worked-refused (s .args .z .rows) (s .args .z .cols) (sets s) (now (s .args .sets)) (filled .grid-sets .ensures .1 .0) (c .before .r .given .1)
 
 enum-told : tie.Need-enum-told
 enum-told c = search needs
@@ -65,7 +65,7 @@ returns-2 c =
     let filled = copied .before .before .before .before .before .before in
     let s = filled .before .before .before .before .before .before .before .before .before .before in
     worked-done (s .args .z .rows) (s .args .z .cols) (sets s) (now (s .args .sets)) _ (length (now (s .args .scaffold)))
-    (filled .grid-sets .ensures .1) (told .enum-told .given .1) (filled .grid-sets .ensures .0) (copied .copy-sets .ensures) (s .pre .1 .1 .1)
+    (filled .grid-sets .ensures .1 .0) (told .enum-told .given .1) (filled .grid-sets .ensures .0) (copied .copy-sets .ensures) (s .pre .1 .1 .1)
 
 pub sets-of-spec : {M : Type 1} → statement M
 sets-of-spec =

@@ -1,27 +1,27 @@
--- `legal::grid::fill_sets` meets its contract. The invariant: the sets of the bays before stand at the front. Assumes nothing.
+-- `legal::grid::fill_sets` meets its contract. The invariant: the sets of the bays before stand at the front, and the rest is as it was. Assumes nothing.
 use Prim.Native.Nat.{_+_, _-_, _≤_, _<_}
 use mathlib.Core.Path.{_≡_, refl, sym, _∙_, ap}
 use native.Mathlib.Omega.{arith}
-use lib.ListN.{length, take, length-set}
+use lib.ListN.{length, take, drop, length-set}
 use denote.Ref.{now}
 use borrow.Author.Needs.{needs}
 use borrow.Author.Needs.{scaled-fits}
 use Rattle.legal_at.specs.Legal.{legalAt}
 use Rattle.bay_lists.specs.Lists.{constraints}
-use Rattle.legal.proofs.Fronts.{set-more, no-set}
+use Rattle.legal.proofs.Fronts.{set-more, no-set, rest-stays}
 use Rattle.legal.specs.Sets.{setsTo}
 use Rattle.legal.proofs.grid.fill_sets.Statement.{statement}
 use Rattle.legal.proofs.grid.fill_sets.Tie as tie
 
 abbrev Inv-loop : tie.InvT-loop
 Inv-loop z strand-glues scaffold delta-g entropy seeds constrained offsets tiles sets₀ bay₀ sets bay =
-    (bay ≤ length scaffold) × (take bay sets ≡ setsTo (legalAt z strand-glues scaffold delta-g entropy seeds (constraints constrained offsets tiles)) bay) × (length sets ≡ length sets₀)
+    (bay ≤ length scaffold) × (take bay sets ≡ setsTo (legalAt z strand-glues scaffold delta-g entropy seeds (constraints constrained offsets tiles)) bay) × (length sets ≡ length sets₀) × (drop bay sets ≡ drop bay sets₀)
 
 abbrev μ-loop : tie.MeasureT-loop
 μ-loop z strand-glues scaffold delta-g entropy seeds constrained offsets tiles sets₀ bay₀ sets bay = length scaffold - bay
 
 loop-holds : tie.Need-loop-holds Inv-loop μ-loop
-loop-holds c = (omega arith, no-set _, refl)
+loop-holds c = (omega arith, no-set _, refl, refl)
 
 constrained-allowed-tiles-at-requires :
     tie.Need-constrained-allowed-tiles-at-requires Inv-loop μ-loop
@@ -53,6 +53,7 @@ loop-again c =
       omega (arith, turn .loop-test .taken),
       set-more legal (turn .before .loop .sets) (turn .before .loop .bay) (c .constrained-allowed-tiles-at .result) (turn .before .loop .inv .1) room (c .constrained-allowed-tiles-at .ensures),
       simp length-set (turn .before .loop .inv .2),
+      rest-stays (turn .before .loop .sets) (now (s .args .sets)) (turn .before .loop .bay) (c .constrained-allowed-tiles-at .result) (turn .before .loop .inv .3),
     )
 
 same-length : tie.Need-same-length Inv-loop μ-loop
@@ -63,7 +64,10 @@ returns c =
     let s = c .before .before .before .before .before .before .before .before .before .before in
     let legal = legalAt (s .args .z) (now (s .args .strand-glues)) (now (s .args .scaffold)) (now (s .args .delta-g)) (now (s .args .entropy)) (now (s .args .seeds)) (constraints (s .args .constrained) (now (s .args .offsets)) (now (s .args .tiles))) in
     let last : c .before .loop .bay ≡ length (now (s .args .scaffold)) = omega (arith, c .before .loop .inv .0, c .loop-test .left) in
-    ap (λ k. take k (c .before .loop .sets)) (sym last) ∙ c .before .loop .inv .1 ∙ ap (setsTo legal) last
+    let old = now (s .args .sets) in (
+      ap (λ k. take k (c .before .loop .sets)) (sym last) ∙ c .before .loop .inv .1 ∙ ap (setsTo legal) last,
+      ap (λ k. drop k (c .before .loop .sets)) (sym last) ∙ c .before .loop .inv .3 ∙ ap (λ k. drop k old) last,
+    )
 
 pub fill-sets-spec : {M : Type 1} → statement M
 fill-sets-spec =

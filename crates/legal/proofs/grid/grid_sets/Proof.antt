@@ -1,4 +1,4 @@
--- `legal::grid::grid_sets` meets its contract: the sets are written, then searched. Assumes nothing.
+-- `legal::grid::grid_sets` meets its contract: the sets are written and the rest is kept, then they are searched. Assumes nothing.
 use Prim.Native.Nat.{ℕ, _*_, _≤_}
 use mathlib.Core.Path.{_≡_, sym, _∙_, ap}
 use mathlib.Core.Bool.{Bool}
@@ -30,14 +30,14 @@ slice-aggregate-check-empty : tie.Need-slice-aggregate-check-empty
 slice-aggregate-check-empty c =
     let filled = c .before .before .before in
     let s = filled .before .before .before .before .before .before .before .before .before .before in
-    sym (ap length (filled .fill-sets .ensures) ∙ length-sets (legal s) (length (now (s .args .scaffold))))
+    sym (ap length (filled .fill-sets .ensures .0) ∙ length-sets (legal s) (length (now (s .args .scaffold))))
 
 check-empty-requires : tie.Need-check-empty-requires
 check-empty-requires c κs =
     let filled = c .before .before .before in
     let s = filled .before .before .before .before .before .before .before .before .before .before in
     let asked = s .pre .1 .1 .0 in
-    (asked .0, asked .1, ap length (filled .fill-sets .ensures) ∙ length-sets (legal s) (length (now (s .args .scaffold))) ∙ asked .2)
+    (asked .0, asked .1, ap length (filled .fill-sets .ensures .0) ∙ length-sets (legal s) (length (now (s .args .scaffold))) ∙ asked .2)
 
 same-length : tie.Need-same-length
 same-length c = search needs
@@ -46,7 +46,8 @@ returns : tie.Need-returns
 returns c =
     let filled = c .before .before .before .before in
     let s = filled .before .before .before .before .before .before .before .before .before .before in
-    (filled .fill-sets .ensures, c .check-empty .ensures ∙ ap (λ (sets : List ℕ). check (emptyVerdict (s .args .z .rows) (s .args .z .cols) sets)) (filled .fill-sets .ensures))
+    let answer = c .check-empty .ensures ∙ ap (λ (sets : List ℕ). check (emptyVerdict (s .args .z .rows) (s .args .z .cols) sets)) (filled .fill-sets .ensures .0) in
+    (filled .fill-sets .ensures .0, (answer, filled .fill-sets .ensures .1))
 
 pub grid-sets-spec : {M : Type 1} → statement M
 grid-sets-spec =

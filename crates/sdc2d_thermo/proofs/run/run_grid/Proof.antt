@@ -37,7 +37,7 @@ room s = roomVerdict (runNeed (asked s) (lists s)) (length (now (s .args .energi
 
 -- what the test for empty sets answers
 seven : (c : tie.After-grid-sets) → let s = c .before .before .before .before .before .before .before .before .before .before .before .before .before in c .grid-sets .result ≡ check (empty s)
-seven c = let s = c .before .before .before .before .before .before .before .before .before .before .before .before .before in empty-is (asked s) (lists s) (length (now (s .args .layout))) (s .pre .0) (s .pre .1) (c .grid-sets .ensures .1)
+seven c = let s = c .before .before .before .before .before .before .before .before .before .before .before .before .before in empty-is (asked s) (lists s) (length (now (s .args .layout))) (s .pre .0) (s .pre .1) (c .grid-sets .ensures .1 .0)
 
 slice-aggregate-grid-sets : tie.Need-slice-aggregate-grid-sets
 slice-aggregate-grid-sets c = search needs
