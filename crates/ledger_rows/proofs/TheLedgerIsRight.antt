@@ -164,6 +164,7 @@ module _ (z : Scan) where
           legal-layout = last .legal;
           answered-sum = answered-sum;
           no-smaller = λ g f l. smallest g f l .1;
+          answer-there = in-windows n (answerRow z n .who) (subst (λ r. r < size z n (suc (z .kept))) (sym is-row) (chose .1 .within));
           first-row = λ g i h. rw is-answer (chose .1 .first (subst (λ x. Good x) is-answer g) i (subst (λ r. i < r) is-row h));
           refused = (refused-by, refused-if);
         }

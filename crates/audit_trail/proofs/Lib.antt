@@ -1,0 +1,5 @@
+pub mod Turned
+pub mod Choices
+pub mod Trail
+pub mod Tests
+pub mod TheLedgerIsAnAuditTrail
