@@ -1,10 +1,10 @@
--- A filling, newest bay first, and a layout, row by row, are the same strands: legal together, with one scan sum. Assumes nothing.
-use Prim.Native.Nat.{ℕ, zero, suc, _+_, _*_, _-_, _%_, _≤_, _<_}
+-- A filling, newest bay first, and a layout, row by row, are the same strands: they may lie there together, with one scan sum. Assumes nothing.
+use Prim.Native.Nat.{ℕ, zero, suc, _-_, _%_, _≤_, _<_}
 use mathlib.Core.Path.{_≡_, refl, sym, _∙_, ap, ap₂, subst}
 use mathlib.Core.Bool.{Bool, true, false, not}
 use mathlib.Core.List.{List, [], _∷_}
 use mathlib.Core.Logic.{⊎-elim}
-use native.Mathlib.Nat.{eq-or-lt-of-le, le-of-suc-le-suc, zero-mod}
+use native.Mathlib.Nat.{eq-or-lt-of-le, le-of-suc-le-suc, lt-of-lt-of-le, zero-mod}
 use native.Mathlib.Decide.{decLe}
 use native.Mathlib.Omega.{arith}
 use lib.Dec.{eqb, leb}
@@ -19,14 +19,13 @@ use Rattle.legal_at.specs.Legal.{isLegal}
 use Rattle.scan_order.specs.Scan.{bayAt, numberAt}
 use Rattle.legal.specs.Sets.{bays}
 use Rattle.scan_order.proofs.Scanned.{bay-inside, number-inside, scanned, numbered}
-use Rattle.ledger_rows.specs.Scan.{Scan, In, Legal, scanSum}
-use Rattle.ledger_rows.specs.Blocks.{tab}
+use Rattle.ledger_rows.specs.Scan.{In, Legal, scanSum}
 use Rattle.ledger_rows.proofs.Lists.{tab-at, length-tab}
 use Rattle.row_choice.specs.Row.{withBond}
 use Rattle.scan_tables.specs.Order.{byRows, window}
-use Rattle.least_layout.specs.Run.{systemScan, rowByRow}
-use Rattle.least_layout.specs.Layouts.{LegalLayout, scannedStrand, bayNumber, scanSumTo}
-use Rattle.least_layout.proofs.Meaning.{legal-below, in-legal, legal-in, added-is}
+use Rattle.least_layout.specs.Run.{scanBy, systemScan, rowByRow}
+use Rattle.least_layout.specs.Layouts.{LayoutBy, LegalLayout, scannedStrand, bayNumber, scanSumTo}
+use Rattle.least_layout.proofs.Meaning.{in-may, may-in, added-by, legal-below}
 
 -- what the tests of a system have seen to
 pub record Fit (s : System) : Type 0 where
@@ -82,19 +81,19 @@ module _ (s : System) where
       without : (u : ℕ) → bayNumber s k a u t ≡ alone a t
       without u = rw e
 
-  module _ (c : Constraints) (fit : Fit s) where
+  module _ (may : ℕ → ℕ → Bool) (below : (b t : ℕ) → may b t ≡ true → t < s .sizes .strands) (fit : Fit s) where
     -- ---- from a layout to its filling
-    module _ (layout : List ℕ) (legal : LegalLayout s c layout) where
-      strand-legal : (k : ℕ) → k < n → isLegal s c (bayAt (s .sizes .rows) (s .sizes .cols) k) (scannedStrand s layout k) ≡ true
+    module _ (layout : List ℕ) (legal : LayoutBy s may layout) where
+      strand-legal : (k : ℕ) → k < n → may (bayAt (s .sizes .rows) (s .sizes .cols) k) (scannedStrand s layout k) ≡ true
       strand-legal k h = legal .each (bayAt (s .sizes .rows) (s .sizes .cols) k) (bay-inside (s .sizes .rows) (s .sizes .cols) k h)
 
       strand-below : (k : ℕ) → k < n → scannedStrand s layout k < s .sizes .strands
-      strand-below k h = legal-below s c _ (scannedStrand s layout k) (strand-legal k h)
+      strand-below k h = below _ (scannedStrand s layout k) (strand-legal k h)
 
-      pub filling-legal : (k : ℕ) → k ≤ n → Legal (systemScan s c) k (fillingTo layout k)
+      pub filling-by : (k : ℕ) → k ≤ n → Legal (scanBy s may) k (fillingTo layout k)
       unfolding fillingTo
-      filling-legal zero h = tt
-      filling-legal (suc k) h = (legal-in s c k (scannedStrand s layout k) h (fit .strands) (strand-legal k h), filling-legal k (omega (arith, h)))
+      filling-by zero h = tt
+      filling-by (suc k) h = (may-in s may k (scannedStrand s layout k) h (lt-of-lt-of-le (strand-below k h) (fit .strands)) (strand-legal k h), filling-by k (omega (arith, h)))
 
       -- the strand of the previous major line, where there is one
       before-is : (k : ℕ) → k < n → (u t : ℕ)
@@ -126,42 +125,42 @@ module _ (s : System) where
           let earlier : suc k - 1 < n = omega (arith, h) in
           (subst (λ (u : ℕ). u < s .sizes .strands) (sym same) (strand-below (suc k - 1) earlier), ap (λ (u : ℕ). bayNumber s (suc k) a u t) same)
 
-      pub filling-sum : (k : ℕ) → k ≤ n → scanSum (systemScan s c) (fillingTo layout k) ≡ scanSumTo s layout k
+      pub sum-by : (k : ℕ) → k ≤ n → scanSum (scanBy s may) (fillingTo layout k) ≡ scanSumTo s layout k
       unfolding fillingTo scanSum scanSumTo
-      filling-sum zero h = refl
-      filling-sum (suc k) h =
+      sum-by zero h = refl
+      sum-by (suc k) h =
           let f = fillingTo layout k in
           let a = getD f (m - 1) 0 in
           let u = getD f 0 0 in
           let t = scannedStrand s layout k in
           let before = before-is k h u t in
           let beside = beside-is k h (scannedStrand s layout (k - m)) t in
-          ap₂ (add binary64) (filling-sum k (omega (arith, h)))
-          (ap (λ (j : ℕ). systemScan s c .added j a u t) (length-filling layout k) ∙ added-is s c k a u t h (fit .strands) (before .0) (beside .0) (strand-below k h) ∙ before .1 ∙ beside .1)
+          ap₂ (add binary64) (sum-by k (omega (arith, h)))
+          (ap (λ (j : ℕ). scanBy s may .added j a u t) (length-filling layout k) ∙ added-by s may k a u t h (fit .strands) (before .0) (beside .0) (strand-below k h) ∙ before .1 ∙ beside .1)
 
     -- ---- from a filling to its layout
-    module _ (f : List ℕ) (legal : Legal (systemScan s c) n f) where
-      long : (k : ℕ) (g : List ℕ) → Legal (systemScan s c) k g → length g ≡ k
+    module _ (f : List ℕ) (legal : Legal (scanBy s may) n f) where
+      long : (k : ℕ) (g : List ℕ) → Legal (scanBy s may) k g → length g ≡ k
       long zero [] l = refl
       long zero (t ∷ g) l = absurd l
       long (suc k) [] l = absurd l
       long (suc k) (t ∷ g) l = ap suc (long k g (l .1))
 
       -- the strand of each bay is legal there
-      each-in : (j : ℕ) (g : List ℕ) → Legal (systemScan s c) j g → (k : ℕ) → k < j → In (systemScan s c .strands k) (getD g (j - suc k) 0)
+      each-in : (j : ℕ) (g : List ℕ) → Legal (scanBy s may) j g → (k : ℕ) → k < j → In (scanBy s may .strands k) (getD g (j - suc k) 0)
       each-in zero g l k h = absurd (omega (arith, h))
       each-in (suc j) [] l k h = absurd l
       each-in (suc j) (t ∷ g) l k h = ⊎-elim newest (earlier (each-in j g (l .1) k)) (eq-or-lt-of-le (le-of-suc-le-suc h))
         where
-          newest : k ≡ j → In (systemScan s c .strands k) (getD (t ∷ g) (suc j - suc k) 0)
+          newest : k ≡ j → In (scanBy s may .strands k) (getD (t ∷ g) (suc j - suc k) 0)
           newest e =
               let first : suc j - suc k ≡ 0 = omega (arith, e) in
-              subst (λ (i : ℕ). In (systemScan s c .strands k) (getD (t ∷ g) i 0)) (sym first) (subst (λ (i : ℕ). In (systemScan s c .strands i) t) (sym e) (l .0))
+              subst (λ (i : ℕ). In (scanBy s may .strands k) (getD (t ∷ g) i 0)) (sym first) (subst (λ (i : ℕ). In (scanBy s may .strands i) t) (sym e) (l .0))
 
-          earlier : (k < j → In (systemScan s c .strands k) (getD g (j - suc k) 0)) → k < j → In (systemScan s c .strands k) (getD (t ∷ g) (suc j - suc k) 0)
+          earlier : (k < j → In (scanBy s may .strands k) (getD g (j - suc k) 0)) → k < j → In (scanBy s may .strands k) (getD (t ∷ g) (suc j - suc k) 0)
           earlier old b =
               let next : suc j - suc k ≡ suc (j - suc k) = omega (arith, b) in
-              subst (λ (i : ℕ). In (systemScan s c .strands k) (getD (t ∷ g) i 0)) (sym next) (old b)
+              subst (λ (i : ℕ). In (scanBy s may .strands k) (getD (t ∷ g) i 0)) (sym next) (old b)
 
       abbrev laid : List ℕ
       laid = rowByRow (s .sizes .rows) (s .sizes .cols) f
@@ -169,14 +168,14 @@ module _ (s : System) where
       laid-at : (bay : ℕ) → bay < n → getD laid bay 0 ≡ getD f (n - suc (numberAt (s .sizes .rows) (s .sizes .cols) bay)) 0
       laid-at bay h = tab-at (λ (b : ℕ). getD f (n - suc (numberAt (s .sizes .rows) (s .sizes .cols) b)) 0) n bay 0 h
 
-      pub layout-legal : LegalLayout s c laid
-      layout-legal = record { long = length-tab (λ (b : ℕ). getD f (n - suc (numberAt (s .sizes .rows) (s .sizes .cols) b)) 0) n; each = each }
+      pub layout-by : LayoutBy s may laid
+      layout-by = record { long = length-tab (λ (b : ℕ). getD f (n - suc (numberAt (s .sizes .rows) (s .sizes .cols) b)) 0) n; each = each }
         where
-          each : (bay : ℕ) → bay < n → isLegal s c bay (getD laid bay 0) ≡ true
+          each : (bay : ℕ) → bay < n → may bay (getD laid bay 0) ≡ true
           each bay h =
               let k = numberAt (s .sizes .rows) (s .sizes .cols) bay in
               let inside = number-inside (s .sizes .rows) (s .sizes .cols) bay h in
-              ap₂ (isLegal s c) (sym (scanned (s .sizes .rows) (s .sizes .cols) bay h)) (laid-at bay h) ∙ in-legal s c k (getD f (n - suc k) 0) inside (each-in n f legal k inside)
+              ap₂ (may) (sym (scanned (s .sizes .rows) (s .sizes .cols) bay h)) (laid-at bay h) ∙ in-may s may k (getD f (n - suc k) 0) inside (each-in n f legal k inside)
 
       -- the layout's filling is the filling
       back-to : (k : ℕ) → k ≤ n → fillingTo laid k ≡ drop (n - k) f
@@ -191,5 +190,21 @@ module _ (s : System) where
           ∙ ap (λ (j : ℕ). getD f (n - suc j) 0) (numbered (s .sizes .rows) (s .sizes .cols) k h) in
           ap₂ (λ (t : ℕ) (g : List ℕ). t ∷ g) own (back-to k (omega (arith, h)) ∙ ap (λ (j : ℕ). drop j f) (sym place)) ∙ sym (drop-cons f (n - suc k) 0 inside)
 
-      pub filling-back : fillingTo laid n ≡ f
-      filling-back = let none : n - n ≡ 0 = omega arith in back-to n (omega arith) ∙ ap (λ (j : ℕ). drop j f) none
+      pub back-by : fillingTo laid n ≡ f
+      back-by = let none : n - n ≡ 0 = omega arith in back-to n (omega arith) ∙ ap (λ (j : ℕ). drop j f) none
+
+-- ---- of the legal strands
+module _ (s : System) (c : Constraints) (fit : Fit s) where
+  module _ (layout : List ℕ) (legal : LegalLayout s c layout) where
+    pub filling-legal : (k : ℕ) → k ≤ bays (s .sizes) → Legal (systemScan s c) k (fillingTo s layout k)
+    filling-legal = filling-by s (isLegal s c) (legal-below s c) fit layout legal
+
+    pub filling-sum : (k : ℕ) → k ≤ bays (s .sizes) → scanSum (systemScan s c) (fillingTo s layout k) ≡ scanSumTo s layout k
+    filling-sum = sum-by s (isLegal s c) (legal-below s c) fit layout legal
+
+  module _ (f : List ℕ) (legal : Legal (systemScan s c) (bays (s .sizes)) f) where
+    pub layout-legal : LegalLayout s c (rowByRow (s .sizes .rows) (s .sizes .cols) f)
+    layout-legal = layout-by s (isLegal s c) (legal-below s c) fit f legal
+
+    pub filling-back : fillingTo s (rowByRow (s .sizes .rows) (s .sizes .cols) f) (bays (s .sizes)) ≡ f
+    filling-back = back-by s (isLegal s c) (legal-below s c) fit f legal

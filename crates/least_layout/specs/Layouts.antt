@@ -1,5 +1,5 @@
 -- What the customer asks of a run, in the system's own words: legal layouts, row by row, and their scan sums. Assumes nothing.
-use Prim.Native.Nat.{ℕ, zero, suc, _+_, _*_, _-_, _%_, _<_}
+use Prim.Native.Nat.{ℕ, zero, suc, _-_, _%_, _<_}
 use mathlib.Core.Path.{_≡_}
 use mathlib.Core.Bool.{Bool, true, false, not}
 use mathlib.Core.List.{List}
@@ -16,12 +16,16 @@ use Rattle.legal.specs.Sets.{bays}
 use Rattle.ledger_rows.specs.LeastEnergyTheorem.{LeastEnergyTheorem}
 use Rattle.row_choice.specs.Row.{withBond}
 use Rattle.scan_tables.specs.Order.{byRows, window}
-use Rattle.least_layout.specs.Run.{systemScan, leastSum, leastLayout}
+use Rattle.least_layout.specs.Run.{scanBy, leastSumBy, leastLayoutBy}
 
--- a strand for each bay, row by row, each legal where it lies
-pub record LegalLayout (s : System) (c : Constraints) (layout : List ℕ) : Type 0 where
+-- a strand for each bay, row by row, each of which may lie there, as any test has it
+pub record LayoutBy (s : System) (may : ℕ → ℕ → Bool) (layout : List ℕ) : Type 0 where
   pub long : length layout ≡ bays (s .sizes)
-  pub each : (bay : ℕ) → bay < bays (s .sizes) → isLegal s c bay (getD layout bay 0) ≡ true
+  pub each : (bay : ℕ) → bay < bays (s .sizes) → may bay (getD layout bay 0) ≡ true
+
+-- each legal where it lies
+abbrev pub LegalLayout : System → Constraints → List ℕ → Type 0
+LegalLayout s c layout = LayoutBy s (isLegal s c) layout
 
 module _ (s : System) where
   abbrev lines : Bool
@@ -52,14 +56,18 @@ module _ (s : System) where
   abbrev pub scanSumOf : List ℕ → Float
   scanSumOf layout = scanSumTo layout (bays (s .sizes))
 
--- What the run of a system promises, once its tests have passed.
-pub record LeastLayoutTheorem (s : System) (c : Constraints) : Type 0 where
+-- What a run over the strands that may lie on each bay promises, once its tests have passed.
+pub record LeastBy (s : System) (may : ℕ → ℕ → Bool) : Type 0 where
   -- each row of the ledger, as the theorem over any scan says it
-  pub ledger : LeastEnergyTheorem (systemScan s c) (bays (s .sizes))
-  -- the layout is legal, and its scan sum is the answered one
-  pub legal : LegalLayout s c (leastLayout s c)
-  pub sum : scanSumOf s (leastLayout s c) ≡ leastSum s c
-  -- no legal layout has a smaller scan sum
-  pub no-smaller : noEnergy (leastSum s c) ≡ false → (layout : List ℕ) → LegalLayout s c layout → le (leastSum s c) (scanSumOf s layout) ≡ true
-  -- refused with 10 exactly when some legal layout's scan sum is NaN or minus infinity
-  pub refused : (noEnergy (leastSum s c) ≡ true) ↔ ((layout : List ℕ) × LegalLayout s c layout × (noEnergy (scanSumOf s layout) ≡ true))
+  pub ledger : LeastEnergyTheorem (scanBy s may) (bays (s .sizes))
+  -- the layout is one of them, and its scan sum is the answered one
+  pub legal : LayoutBy s may (leastLayoutBy s may)
+  pub sum : scanSumOf s (leastLayoutBy s may) ≡ leastSumBy s may
+  -- no such layout has a smaller scan sum
+  pub no-smaller : noEnergy (leastSumBy s may) ≡ false → (layout : List ℕ) → LayoutBy s may layout → le (leastSumBy s may) (scanSumOf s layout) ≡ true
+  -- refused with 10 exactly when some such layout's scan sum is NaN or minus infinity
+  pub refused : (noEnergy (leastSumBy s may) ≡ true) ↔ ((layout : List ℕ) × LayoutBy s may layout × (noEnergy (scanSumOf s layout) ≡ true))
+
+-- What the run of a system promises, once its tests have passed.
+abbrev pub LeastLayoutTheorem : System → Constraints → Type 0
+LeastLayoutTheorem s c = LeastBy s (isLegal s c)
