@@ -37,7 +37,8 @@ use Rattle.least_layout.specs.Run.{systemScan, runNeed, leastSum, leastLayout}
 use Rattle.least_layout.specs.Layouts.{LeastLayoutTheorem}
 use Rattle.least_layout.proofs.Fillings.{Fit}
 use Rattle.least_layout.proofs.Passed.{fit, run-is-right}
-use Rattle.sdc2d_thermo.specs.Run.{earlyVerdict, sumVerdict, runVerdict, mfeAnswer, front, tableAfter, layoutAfter, energiesAfter, notesAfter}
+use Rattle.sets_run.specs.Finished.{front, tableAfter}
+use Rattle.sdc2d_thermo.specs.Run.{earlyVerdict, sumVerdict, runVerdict, mfeAnswer, layoutAfter, energiesAfter, notesAfter}
 use Rattle.sdc2d_thermo.proofs.mfe_configuration.Kinds as kinds
 use Rattle.sdc2d_thermo.proofs.mfe_configuration.Reads as reads
 use Rattle.audit_trail.specs.Rows.{rowsAfter, begins, needed}

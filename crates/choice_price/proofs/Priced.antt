@@ -1,49 +1,61 @@
--- From the tests of a choice and the run behind them to the call's promises. Assumes nothing.
-use Prim.Native.Nat.{ℕ}
-use mathlib.Core.Path.{_≡_, refl, sym, _∙_, ap, subst}
-use mathlib.Core.List.{List}
-use native.Mathlib.Omega.{arith}
+-- From the finished run to the call's promises. Assumes nothing.
+use Prim.Native.Nat.{ℕ, _*_}
+use mathlib.Core.Path.{_≡_, refl}
+use mathlib.Core.Bool.{not, _&&_, _||_}
+use mathlib.Core.List.{List, [], _∷_}
+use lib.Dec.{eqb, leb, ltb}
 use lib.Ieee.{Float}
-use Rattle.units.specs.declared.Refusal.{Refusal}
-use Rattle.units.specs.declared.Check.{Check}
-use Rattle.units.specs.declared.Check.the-variants.{Passed, Refused}
+use lib.ListN.{length}
 use Rattle.units.specs.declared.EnergyAnswer.{EnergyAnswer}
-use Rattle.units.specs.declared.EnergyAnswer.the-variants.{Refused as Energy·Refused}
 use Rattle.units.specs.Answers.{energyRefusal}
-use Rattle.units.specs.Refusals.{Verdict, passes, refuses, _▷_, check, ifPasses, Prints}
-use Rattle.units.proofs.Verdicts.{Tabled, printed}
-use Rattle.choice_price.specs.Price.{unlessRefused}
+use Rattle.units.specs.Refusals.{refuseIf, _▷_, Prints}
+use Rattle.units.proofs.Verdicts.{Tabled, tabled-if, tabled-then}
+use Rattle.units.proofs.Answers.{given, an-energy}
+use Rattle.beta_energies.specs.Energies.{noEnergy}
+use Rattle.state_energy.specs.StateG.{inKcal}
+use Rattle.sdc2d.specs.System.{System, systemVerdict}
+use Rattle.sdc2d.proofs.Tabled.{system-tabled}
+use Rattle.bay_lists.specs.Lists.{Constraints, offsetsShaped}
+use Rattle.legal.specs.Sets.{bays, shapeVerdict, firstEmpty, emptyVerdict}
+use Rattle.run_room.specs.Room.{roomVerdict}
+use Rattle.least_layout.specs.Run.{scanBy, needBy, leastSumBy}
+use Rattle.sets_run.specs.Finished.{Finished}
+use Rattle.choice_price.specs.Choice.{chosenLegal, chosenSets}
+use Rattle.choice_price.specs.Price.{choiceVerdict, earlyVerdict, sumVerdict, priceVerdict, priceAnswer, priceLayout, priceEnergies, priceNotes}
 
--- the promises by the verdict on the choice, by what the run comes to, and by what is to be left
-abbrev pub Priced : (v run : Verdict) → (answer : EnergyAnswer) → (offsets tiles layout : List ℕ) → (energies : List Float) → (notes : List ℕ)
-    → EnergyAnswer → (o₀ o₁ t₀ t₁ l₀ l₁ : List ℕ) → (e₀ e₁ : List Float) → (n₀ n₁ : List ℕ) → Type 0
-Priced v run answer offsets tiles layout energies notes r o₀ o₁ t₀ t₁ l₀ l₁ e₀ e₁ n₀ n₁ =
-    Prints (energyRefusal r) (v ▷ run)
-    × ((r ≡ unlessRefused v answer)
-    × ((o₁ ≡ ifPasses v offsets o₀)
-    × ((t₁ ≡ ifPasses v tiles t₀) × ((l₁ ≡ ifPasses v layout l₀) × ((e₁ ≡ ifPasses v energies e₀) × (n₁ ≡ ifPasses v notes n₀))))))
+-- every refusal has the values of its row
+price-tabled : (s : System) (c : Constraints) (bay strand layout energies notes : ℕ) → Tabled (priceVerdict s c bay strand layout energies notes)
+price-tabled s c bay strand layout energies notes =
+    let rows = s .sizes .rows in
+    let cols = s .sizes .cols in
+    let sets = chosenSets s c bay strand in
+    let shape = shapeVerdict (s .sizes) layout c in
+    let off = refuseIf (leb (bays (s .sizes)) bay) 5 [] in
+    let choice = choiceVerdict (s .sizes) layout c bay in
+    let empty = emptyVerdict rows cols sets in
+    let need = needBy s (chosenLegal s c bay strand) in
+    let room = roomVerdict need energies notes in
+    tabled-then (earlyVerdict s c bay strand layout energies notes) (sumVerdict s c bay strand)
+    (tabled-then (systemVerdict s) (choice ▷ empty ▷ room) (system-tabled s)
+    (tabled-then choice (empty ▷ room)
+    (tabled-then shape off (tabled-if (not (eqb layout (bays (s .sizes)) && offsetsShaped (bays (s .sizes)) c)) 5 [] refl) (tabled-if (leb (bays (s .sizes)) bay) 5 [] refl))
+    (tabled-then empty room (tabled-if (ltb (firstEmpty rows cols sets 0 (rows * cols)) (rows * cols)) 7 _ refl)
+    (tabled-then (refuseIf (ltb 1048576 need) 8 []) (refuseIf (ltb energies need || ltb notes need) 9 (need ∷ []))
+    (tabled-if (ltb 1048576 need) 8 [] refl) (tabled-if (ltb energies need || ltb notes need) 9 (need ∷ []) refl)))))
+    (tabled-if (noEnergy (leastSumBy s (chosenLegal s c bay strand))) 10 [] refl)
 
-never : {A : Type 0} {x : Check} {r : Refusal} → x ≡ Passed → x ≡ Refused r → A
-never e f = let z : _≡_ {A = ℕ} 0 1 = cc in absurd (omega arith)
+-- what the contract asks
+abbrev pub Priced : System → Constraints → (bay strand : ℕ) → EnergyAnswer → (l₀ l₁ : List ℕ) → (e₀ e₁ : List Float) → (n₀ n₁ : List ℕ) → Type 0
+Priced s c bay strand r l₀ l₁ e₀ e₁ n₀ n₁ =
+    Prints (energyRefusal r) (priceVerdict s c bay strand (length l₀) (length e₀) (length n₀))
+    × ((r ≡ priceAnswer s c bay strand (length l₀) (length e₀) (length n₀))
+    × ((l₁ ≡ priceLayout s c bay strand (length e₀) (length n₀) l₀)
+    × ((e₁ ≡ priceEnergies s c bay strand (length l₀) (length n₀) e₀) × (n₁ ≡ priceNotes s c bay strand (length l₀) (length e₀) n₀))))
 
-same-refusal : {r q : Refusal} {x : Check} → x ≡ Refused q → x ≡ Refused r → Energy·Refused r ≡ Energy·Refused q
-same-refusal {r} {q} e f = same r (cc)
-  where
-    same : (p : Refusal) → p ≡ q → Energy·Refused p ≡ Energy·Refused q
-    same p h = ap Energy·Refused h
-
--- refused: nothing is written
-pub stopped : (v run : Verdict) (answer : EnergyAnswer) (offsets tiles layout : List ℕ) (energies : List Float) (notes : List ℕ) → Tabled v → {x : Check} {r : Refusal} → x ≡ check v → x ≡ Refused r
-    → (o t l : List ℕ) (e : List Float) (n : List ℕ) → Priced v run answer offsets tiles layout energies notes (Energy·Refused r) o o t t l l e e n n
-stopped passes run answer offsets tiles layout energies notes t e f o t₀ l en n = never e f
-stopped (refuses number values) run answer offsets tiles layout energies notes t e f o t₀ l en n =
-    (printed (refuses number values) t (sym f ∙ e) .0, (same-refusal e f, (refl, (refl, (refl, (refl, refl))))))
-
--- passed: what the run answers and leaves
-pub ran : (v run : Verdict) (offsets tiles : List ℕ) {answer r : EnergyAnswer} {layout : List ℕ} {energies : List Float} {notes : List ℕ} (o₀ t₀ l₀ : List ℕ) (e₀ : List Float) (n₀ : List ℕ)
-    {o₁ t₁ l₁ : List ℕ} {e₁ : List Float} {n₁ : List ℕ} → v ≡ passes → o₁ ≡ offsets → t₁ ≡ tiles
-    → Prints (energyRefusal r) run × ((r ≡ answer) × ((l₁ ≡ layout) × ((e₁ ≡ energies) × (n₁ ≡ notes))))
-    → Priced v run answer offsets tiles layout energies notes r o₀ o₁ t₀ t₁ l₀ l₁ e₀ e₁ n₀ n₁
-ran v run offsets tiles {answer} {r} {layout} {energies} {notes} o₀ t₀ l₀ e₀ n₀ {o₁} {t₁} {l₁} {e₁} {n₁} p o t q =
-    subst (λ (u : Verdict). Priced u run answer offsets tiles layout energies notes r o₀ o₁ t₀ t₁ l₀ l₁ e₀ e₁ n₀ n₁) (sym p)
-    (q .0, (q .1 .0, (o, (t, q .1 .1))))
+pub priced : (s : System) (c : Constraints) (bay strand : ℕ) {r : EnergyAnswer} (l₀ : List ℕ) {l₁ : List ℕ} (e₀ : List Float) {e₁ : List Float} (n₀ : List ℕ) {n₁ : List ℕ}
+    → Finished (earlyVerdict s c bay strand (length l₀) (length e₀) (length n₀)) (scanBy s (chosenLegal s c bay strand)) (s .sizes .rows) (s .sizes .cols) (s .sizes .kelvin) r l₀ l₁ e₀ e₁ n₀ n₁
+    → Priced s c bay strand r l₀ l₁ e₀ e₁ n₀ n₁
+priced s c bay strand l₀ e₀ n₀ f =
+    let v = priceVerdict s c bay strand (length l₀) (length e₀) (length n₀) in
+    let p = given (an-energy (inKcal (leastSumBy s (chosenLegal s c bay strand)) (s .sizes .kelvin))) v (price-tabled s c bay strand (length l₀) (length e₀) (length n₀)) (f .answered) in
+    (p .0, (p .1, (f .laid, (f .energies, f .notes))))

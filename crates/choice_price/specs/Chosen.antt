@@ -10,7 +10,7 @@ use Rattle.bay_lists.specs.Lists.{Constraints, constraints}
 use Rattle.legal_at.specs.Legal.{isLegal}
 use Rattle.legal.specs.Sets.{bays}
 use Rattle.state_energy.specs.StateG.{inKcal}
-use Rattle.least_layout.specs.Layouts.{scanSumOf}
+use Rattle.beta_energies.specs.ScanSum.{scanSumOf}
 
 -- a strand for each bay, row by row: on the chosen bay the strand, which is legal there without constraints, and on every other bay one that is legal there
 pub record ChosenLayout (s : System) (c : Constraints) (bay strand : ℕ) (layout : List ℕ) : Type 0 where

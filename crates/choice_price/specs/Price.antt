@@ -1,74 +1,58 @@
--- The price of a choice as a call: what is refused of it, its answer, and what it leaves in the five lent slices. Assumes nothing.
-use Prim.Native.Nat.{ℕ, _+_, _*_}
-use mathlib.Core.Bool.{Bool, not, _&&_}
-use mathlib.Core.List.{List, [], _∷_}
-use lib.Dec.{eqb, leb, ltb}
-use lib.Ieee.{Float}
+-- The price of a choice as a call: what is refused of it, its answer, and what it leaves in the three lent slices. Assumes nothing.
+use Prim.Native.Nat.{ℕ}
+use mathlib.Core.List.{List, []}
+use lib.Dec.{leb}
+use lib.Ieee.{Float, binary64, ofBits}
 use lib.ListN.{length}
 use Rattle.units.specs.declared.EnergyAnswer.{EnergyAnswer}
-use Rattle.units.specs.declared.EnergyAnswer.the-variants.{Refused}
-use Rattle.units.specs.Refusals.{Verdict, passes, refuses, refuseIf, _▷_, refusal, ifPasses}
-use Rattle.sdc2d.specs.System.{System, inRange}
-use Rattle.bay_lists.specs.Lists.{Constraints, offsetsShaped}
-use Rattle.sheet_cells.specs.Cells.{front}
-use Rattle.one_choice.specs.Choice.{offsetsAfter, tilesAfter, choice}
-use Rattle.sdc2d_thermo.specs.Run.{runVerdict, mfeAnswer, layoutAfter, energiesAfter, notesAfter}
+use Rattle.units.specs.Answers.{energyAnswer}
+use Rattle.units.specs.Refusals.{Verdict, refuseIf, _▷_, ifPasses}
+use Rattle.sdc2d.specs.declared.sizes.Sizes.{Sizes}
+use Rattle.sdc2d.specs.System.{System, systemVerdict}
+use Rattle.state_energy.specs.StateG.{energyVerdict, inKcal}
+use Rattle.bay_lists.specs.Lists.{Constraints}
+use Rattle.legal.specs.Sets.{bays, shapeVerdict, emptyVerdict}
+use Rattle.ledger_rows.specs.Blocks.{energyTable, noteTable}
+use Rattle.run_room.specs.Room.{roomVerdict}
+use Rattle.least_layout.specs.Run.{scanBy, needBy, leastSumBy, leastLayoutBy}
+use Rattle.sets_run.specs.Finished.{tableAfter}
+use Rattle.choice_price.specs.Choice.{chosenLegal, chosenSets}
 
--- from 1 to 32 rows and from 1 to 32 columns
-abbrev pub sidesFit : (rows cols : ℕ) → Bool
-sidesFit rows cols = inRange rows 32 && inRange cols 32
+-- 5: the lent layout or the constraint offsets have the wrong shape, or the bay is off the grid
+abbrev pub choiceVerdict : Sizes → (lent : ℕ) → Constraints → (bay : ℕ) → Verdict
+choiceVerdict z lent c bay = shapeVerdict z lent c ▷ refuseIf (leb (bays z) bay) 5 []
 
--- one place more than there are bays is lent for the new offsets, the bay is one of them, and the constraints have the right shape
-abbrev pub choiceFits : (bays : ℕ) → Constraints → (bay newOffsets : ℕ) → Bool
-choiceFits bays c bay newOffsets = eqb newOffsets (bays + 1) && (ltb bay bays && offsetsShaped bays c)
+-- what is refused before anything is written: 1 to 4, 5, 7, 8, 9
+abbrev pub earlyVerdict : System → Constraints → (bay strand layout energies notes : ℕ) → Verdict
+earlyVerdict s c bay strand layout energies notes =
+    systemVerdict s
+    ▷ choiceVerdict (s .sizes) layout c bay
+    ▷ emptyVerdict (s .sizes .rows) (s .sizes .cols) (chosenSets s c bay strand)
+    ▷ roomVerdict (needBy s (chosenLegal s c bay strand)) energies notes
 
--- 1: a side is out of range; then 5: a shape or the bay is wrong; then 9, with the need: no place more than the old tiles take is lent for the new ones
-abbrev pub choiceVerdict : (rows cols : ℕ) → Constraints → (bay newOffsets newTiles : ℕ) → Verdict
-choiceVerdict rows cols c bay newOffsets newTiles =
-    refuseIf (not (sidesFit rows cols)) 1 []
-    ▷ refuseIf (not (choiceFits (rows * cols) c bay newOffsets)) 5 []
-    ▷ refuseIf (leb newTiles (length (c .tiles))) 9 ((length (c .tiles) + 1) ∷ [])
+-- 10: the least scan sum is NaN or minus infinity
+abbrev pub sumVerdict : System → Constraints → (bay strand : ℕ) → Verdict
+sumVerdict s c bay strand = energyVerdict (leastSumBy s (chosenLegal s c bay strand))
 
--- what the lent offsets and tiles hold afterwards: the constraints of the choice, or what they held where it was refused
-abbrev pub newOffsetsAfter : (rows cols : ℕ) → Constraints → (bay strand newTiles : ℕ) → (old : List ℕ) → List ℕ
-newOffsetsAfter rows cols c bay strand newTiles old =
-    ifPasses (choiceVerdict rows cols c bay (length old) newTiles) (offsetsAfter c (rows * cols) bay strand) old
+abbrev pub priceVerdict : System → Constraints → (bay strand layout energies notes : ℕ) → Verdict
+priceVerdict s c bay strand layout energies notes = earlyVerdict s c bay strand layout energies notes ▷ sumVerdict s c bay strand
 
-abbrev pub newTilesAfter : (rows cols : ℕ) → Constraints → (bay strand newOffsets : ℕ) → (old : List ℕ) → List ℕ
-newTilesAfter rows cols c bay strand newOffsets old =
-    ifPasses (choiceVerdict rows cols c bay newOffsets (length old)) (front (tilesAfter c (rows * cols) bay strand) old) old
+-- the least energy with the strand on the bay, in kcal/mol, or the refusal
+abbrev pub priceAnswer : System → Constraints → (bay strand layout energies notes : ℕ) → EnergyAnswer
+priceAnswer s c bay strand layout energies notes =
+    energyAnswer (priceVerdict s c bay strand layout energies notes) (inKcal (leastSumBy s (chosenLegal s c bay strand)) (s .sizes .kelvin))
 
--- the constraints of the choice over the grid of a system
-abbrev pub chosen : System → Constraints → (bay strand : ℕ) → Constraints
-chosen s c bay strand = choice c (s .sizes .rows * s .sizes .cols) bay strand
+-- what the three lent slices hold afterwards
+abbrev pub priceLayout : System → Constraints → (bay strand energies notes : ℕ) → (old : List ℕ) → List ℕ
+priceLayout s c bay strand energies notes old =
+    ifPasses (priceVerdict s c bay strand (length old) energies notes) (leastLayoutBy s (chosenLegal s c bay strand)) old
 
--- what the choice and the lent offsets and tiles come to, on the grid of a system
-abbrev pub asked : System → Constraints → (bay newOffsets newTiles : ℕ) → Verdict
-asked s c bay newOffsets newTiles = choiceVerdict (s .sizes .rows) (s .sizes .cols) c bay newOffsets newTiles
+abbrev pub priceEnergies : System → Constraints → (bay strand layout notes : ℕ) → (old : List Float) → List Float
+priceEnergies s c bay strand layout notes old =
+    let may = chosenLegal s c bay strand in
+    tableAfter (earlyVerdict s c bay strand layout (length old) notes) (sumVerdict s c bay strand) (needBy s may) (ofBits binary64 0) (energyTable (scanBy s may) (bays (s .sizes))) old
 
--- 1, 5 and 9 of the choice, then what the run refuses
-abbrev pub priceVerdict : System → Constraints → (bay strand newOffsets newTiles layout energies notes : ℕ) → Verdict
-priceVerdict s c bay strand newOffsets newTiles layout energies notes =
-    asked s c bay newOffsets newTiles ▷ runVerdict s (chosen s c bay strand) layout energies notes
-
--- the refusal of the tests, or else an answer
-abbrev pub unlessRefused : Verdict → EnergyAnswer → EnergyAnswer
-unlessRefused passes answer = answer
-unlessRefused (refuses number values) answer = Refused (refusal number values)
-
--- the run's answer with the constraints of the choice, and what it leaves
-abbrev pub priceAnswer : System → Constraints → (bay strand newOffsets newTiles layout energies notes : ℕ) → EnergyAnswer
-priceAnswer s c bay strand newOffsets newTiles layout energies notes =
-    unlessRefused (asked s c bay newOffsets newTiles) (mfeAnswer s (chosen s c bay strand) layout energies notes)
-
-abbrev pub priceLayout : System → Constraints → (bay strand newOffsets newTiles energies notes : ℕ) → (old : List ℕ) → List ℕ
-priceLayout s c bay strand newOffsets newTiles energies notes old =
-    ifPasses (asked s c bay newOffsets newTiles) (layoutAfter s (chosen s c bay strand) energies notes old) old
-
-abbrev pub priceEnergies : System → Constraints → (bay strand newOffsets newTiles layout notes : ℕ) → (old : List Float) → List Float
-priceEnergies s c bay strand newOffsets newTiles layout notes old =
-    ifPasses (asked s c bay newOffsets newTiles) (energiesAfter s (chosen s c bay strand) layout notes old) old
-
-abbrev pub priceNotes : System → Constraints → (bay strand newOffsets newTiles layout energies : ℕ) → (old : List ℕ) → List ℕ
-priceNotes s c bay strand newOffsets newTiles layout energies old =
-    ifPasses (asked s c bay newOffsets newTiles) (notesAfter s (chosen s c bay strand) layout energies old) old
+abbrev pub priceNotes : System → Constraints → (bay strand layout energies : ℕ) → (old : List ℕ) → List ℕ
+priceNotes s c bay strand layout energies old =
+    let may = chosenLegal s c bay strand in
+    tableAfter (earlyVerdict s c bay strand layout energies (length old)) (sumVerdict s c bay strand) (needBy s may) 0 (noteTable (scanBy s may) (bays (s .sizes))) old

@@ -1,94 +1,202 @@
 // The price of a choice: the least energy of a layout that has a given strand on a given bay.
 ghost use mathlib.Core.Path.{_≡_};
-ghost use Prim.Native.Nat.{_≤_};
-ghost use lib.ListN.{length};
-ghost use Rattle.units.specs.Refusals.{check, Prints};
+ghost use mathlib.Core.Bool.{true, false, _&&_};
+ghost use mathlib.Core.List.{[]};
+ghost use Prim.Native.Nat.{_*_, _≤_, _<_};
+ghost use lib.Dec.{eqb};
+ghost use lib.ListN.{length, take};
+ghost use Rattle.units.specs.Refusals.{check, passes, Prints};
 ghost use Rattle.units.specs.Answers.{energyRefusal};
-ghost use Rattle.sdc2d.specs.System.{inRange, system};
-ghost use Rattle.bay_lists.specs.Lists.{constraints};
-ghost use Rattle.choice_price.specs.Price.{sidesFit, choiceFits, choiceVerdict, priceVerdict, priceAnswer, newOffsetsAfter, newTilesAfter, priceLayout, priceEnergies, priceNotes};
-use bay_lists::offsets_shaped;
-use one_choice::with_list_of_one;
+ghost use Rattle.sets.specs.Set.{word};
+ghost use Rattle.sdc2d.specs.System.{system, systemVerdict};
+ghost use Rattle.bonds.specs.Readable.{Readable};
+ghost use Rattle.bay_lists.specs.Lists.{constraints, offsetsShaped};
+ghost use Rattle.legal_at.specs.Legal.{isLegal};
+ghost use Rattle.legal_at.specs.OnGrid.{OnGrid, Grid};
+ghost use Rattle.legal.specs.Sets.{setsTo, emptyVerdict};
+ghost use Rattle.sets_run.specs.Finished.{FinishedBy};
+ghost use Rattle.choice_price.specs.Choice.{chosenLegal, chosenSets};
+ghost use Rattle.choice_price.specs.Price.{choiceVerdict, priceVerdict, priceAnswer, priceLayout, priceEnergies, priceNotes};
+use legal::check_empty;
+use legal::check_shape;
+use legal::fill_sets;
+use legal_at::constrained_allowed_tiles_at;
 use sdc2d::Sizes;
-use sdc2d_thermo::mfe_configuration;
-use slice_fronts::first_small_numbers;
+use sdc2d::check_system;
+use sets_run::run_sets;
 use units::Check;
 use units::EnergyAnswer;
 use units::Refusal;
 
-// Whether a side of a grid is from 1 to 32.
-fn side_fits(side: usize) -> bool
-    ensures { λ r. ⌜ r ≡ inRange side 32 ⌝ }
-{
-    1 <= side && side <= 32
-}
-
-// Whether both sides are.
-fn sides_fit(rows: usize, cols: usize) -> bool
-    ensures { λ r. ⌜ r ≡ sidesFit rows cols ⌝ }
-{
-    side_fits(rows) && side_fits(cols)
-}
-
-// Whether one place more than there are bays is lent for the new offsets, the bay is one of them, and the constraints have the right shape.
-fn choice_fits(
-    bays: usize,
-    constrained: bool,
-    offsets: &[usize],
-    tiles: &[u32],
-    bay: usize,
-    places: usize,
-) -> bool
-    requires { ⌜ bays ≤ 1024 ⌝ }
-    ensures { λ r. ⌜ r ≡ choiceFits bays (constraints constrained (now (offsets .entry)) (now (tiles .entry))) bay places ⌝ }
-{
-    if places != bays + 1 {
-        return false;
-    }
-    if bays <= bay {
-        return false;
-    }
-    offsets_shaped(bays, constrained, offsets, tiles)
-}
-
-// What is refused of a choice before anything is written: 1, 5 and 9.
+// Refusal 5.
 fn check_choice(
     z: Sizes,
+    lent: usize,
     constrained: bool,
     offsets: &[usize],
     tiles: &[u32],
     bay: usize,
-    places: usize,
-    room: usize,
 ) -> Check
-    ensures { λ r. ⌜ r ≡ check (choiceVerdict (z .rows) (z .cols) (constraints constrained (now (offsets .entry)) (now (tiles .entry))) bay places room) ⌝ }
+    requires { ⌜ (z .rows ≤ 32) × (z .cols ≤ 32) ⌝ }
+    ensures { λ r. ⌜ r ≡ check (choiceVerdict z lent (constraints constrained (now (offsets .entry)) (now (tiles .entry))) bay) ⌝ }
 {
-    if !sides_fit(z.rows, z.cols) {
-        return Check::Refused(Refusal {
-            number: 1,
-            first: 0,
-            second: 0,
-        });
+    match check_shape(z, lent, constrained, offsets, tiles) {
+        Check::Refused(r) => return Check::Refused(r),
+        Check::Passed => (),
     }
-    if !choice_fits(z.rows * z.cols, constrained, offsets, tiles, bay, places) {
+    if z.rows * z.cols <= bay {
         return Check::Refused(Refusal {
             number: 5,
             first: 0,
             second: 0,
         });
     }
-    if room <= tiles.len() {
-        return Check::Refused(Refusal {
-            number: 9,
-            first: tiles.len() + 1,
-            second: 0,
-        });
-    }
     Check::Passed
 }
 
-// The least energy of a layout that has the strand on the bay, with that layout, the ledger of its run and the constraints that were run, which are left in
-// the lent offsets and at the front of the lent tiles, or a refusal.
+// The set of the chosen bay: the strand alone, where it is legal there without constraints, else no strand.
+fn chosen_set(
+    z: Sizes,
+    strand_glues: &[u32],
+    scaffold: &[u32],
+    delta_g: &[f64],
+    entropy: &[f64],
+    seeds: &[u32],
+    bay: usize,
+    strand: u32,
+) -> u64
+    requires { ⌜ Readable (z .strands) (z .glues) (now «strand_glues») (now «delta_g») (now entropy) ⌝ }
+    requires { ⌜ OnGrid z (now scaffold) (now seeds) bay ⌝ }
+    ensures { λ r. let s = system z (now («strand_glues» .entry)) (now (scaffold .entry)) (now («delta_g» .entry)) (now (entropy .entry)) [] (now (seeds .entry)) in
+        ⌜ r ≡ word (λ t. isLegal s (constraints false [] []) bay t && eqb t strand) 64 ⌝ }
+{
+    let permitted = constrained_allowed_tiles_at(
+        z,
+        strand_glues,
+        scaffold,
+        delta_g,
+        entropy,
+        seeds,
+        false,
+        &[],
+        &[],
+        bay,
+    );
+    sets::both(permitted, sets::only(strand))
+}
+
+// Writes the sets of all bays under the choice to the front of a table, and refuses 7.
+fn chosen_sets(
+    z: Sizes,
+    strand_glues: &[u32],
+    scaffold: &[u32],
+    delta_g: &[f64],
+    entropy: &[f64],
+    seeds: &[u32],
+    constrained: bool,
+    offsets: &[usize],
+    tiles: &[u32],
+    bay: usize,
+    strand: u32,
+    sets: &mut [u64],
+) -> Check
+    requires { ⌜ Grid z (now «strand_glues») (now scaffold) (now «delta_g») (now entropy) (now seeds) ⌝ }
+    requires { ⌜ offsetsShaped (length (now scaffold)) (constraints constrained (now offsets) (now tiles)) ≡ true ⌝ }
+    requires { ⌜ (z .rows ≤ 32) × (z .cols ≤ 32) × (length (now scaffold) ≡ z .rows * z .cols) ⌝ }
+    requires { ⌜ length (now scaffold) ≤ length (now sets) ⌝ }
+    requires { ⌜ bay < length (now scaffold) ⌝ }
+    ensures sets { λ _. let s = system z (now («strand_glues» .entry)) (now (scaffold .entry)) (now («delta_g» .entry)) (now (entropy .entry)) [] (now (seeds .entry)) in
+        let c = constraints constrained (now (offsets .entry)) (now (tiles .entry)) in
+        ⌜ take (length (now (scaffold .entry))) (now (sets .exit)) ≡ setsTo (chosenLegal s c bay strand) (length (now (scaffold .entry))) ⌝ }
+    ensures answer { λ r. let s = system z (now («strand_glues» .entry)) (now (scaffold .entry)) (now («delta_g» .entry)) (now (entropy .entry)) [] (now (seeds .entry)) in
+        let c = constraints constrained (now (offsets .entry)) (now (tiles .entry)) in
+        ⌜ r ≡ check (emptyVerdict (z .rows) (z .cols) (setsTo (chosenLegal s c bay strand) (length (now (scaffold .entry))))) ⌝ }
+{
+    fill_sets(
+        z,
+        strand_glues,
+        scaffold,
+        delta_g,
+        entropy,
+        seeds,
+        constrained,
+        offsets,
+        tiles,
+        sets,
+    );
+    sets[bay] = chosen_set(
+        z,
+        strand_glues,
+        scaffold,
+        delta_g,
+        entropy,
+        seeds,
+        bay,
+        strand,
+    );
+    check_empty(z.rows, z.cols, &sets[..scaffold.len()])
+}
+
+// The run of a system and a choice that passed 1 to 5: refusal 7, then the sets. They are worked out aside.
+fn run_chosen(
+    z: Sizes,
+    strand_glues: &[u32],
+    scaffold: &[u32],
+    delta_g: &[f64],
+    entropy: &[f64],
+    logs: &[f64],
+    seeds: &[u32],
+    constrained: bool,
+    offsets: &[usize],
+    tiles: &[u32],
+    bay: usize,
+    strand: u32,
+    layout: &mut [u32],
+    energies: &mut [f64],
+    notes: &mut [u8],
+) -> EnergyAnswer
+    requires { ⌜ systemVerdict (system z (now «strand_glues») (now scaffold) (now «delta_g») (now entropy) (now logs) (now seeds)) ≡ passes ⌝ }
+    requires { ⌜ choiceVerdict z (length (now layout)) (constraints constrained (now offsets) (now tiles)) bay ≡ passes ⌝ }
+    ensures { λ r. let s = system z (now («strand_glues» .entry)) (now (scaffold .entry)) (now («delta_g» .entry)) (now (entropy .entry)) (now (logs .entry)) (now (seeds .entry)) in
+        let c = constraints constrained (now (offsets .entry)) (now (tiles .entry)) in
+        let first = emptyVerdict (z .rows) (z .cols) (chosenSets s c bay strand) in
+        let may = chosenLegal s c bay strand in
+        ⌜ FinishedBy first s may r (now (layout .entry)) (now (layout .exit)) (now (energies .entry)) (now (energies .exit)) (now (notes .entry)) (now (notes .exit)) ⌝ }
+{
+    let mut sets = [0u64; 1024];
+    match chosen_sets(
+        z,
+        strand_glues,
+        scaffold,
+        delta_g,
+        entropy,
+        seeds,
+        constrained,
+        offsets,
+        tiles,
+        bay,
+        strand,
+        &mut sets,
+    ) {
+        Check::Refused(r) => return EnergyAnswer::Refused(r),
+        Check::Passed => (),
+    }
+    run_sets(
+        z,
+        strand_glues,
+        scaffold,
+        delta_g,
+        entropy,
+        logs,
+        &sets,
+        layout,
+        energies,
+        notes,
+    )
+}
+
+// The least energy of a layout that has the strand on the bay: the energy in kcal/mol, that layout row by row, and the ledger of the run, or a refusal. The
+// bay's own list does not count, its seed and its glue do. A refusal writes nothing, but 10 sets the needed places of both tables to 0.
 pub fn mfe_with_choice(
     z: Sizes,
     strand_glues: &[u32],
@@ -102,37 +210,35 @@ pub fn mfe_with_choice(
     tiles: &[u32],
     bay: usize,
     strand: u32,
-    new_offsets: &mut [usize],
-    new_tiles: &mut [u32],
     layout: &mut [u32],
     energies: &mut [f64],
-    notes: &mut [u8],
+    leaving: &mut [u8],
 ) -> EnergyAnswer
-    ensures refusal { λ r. ⌜ Prints (energyRefusal r) (priceVerdict (system z (now («strand_glues» .entry)) (now (scaffold .entry)) (now («delta_g» .entry)) (now (entropy .entry)) (now (logs .entry)) (now (seeds .entry))) (constraints constrained (now (offsets .entry)) (now (tiles .entry))) bay strand (length (now («new_offsets» .entry))) (length (now («new_tiles» .entry))) (length (now (layout .entry))) (length (now (energies .entry))) (length (now (notes .entry)))) ⌝ }
-    ensures answer { λ r. ⌜ r ≡ priceAnswer (system z (now («strand_glues» .entry)) (now (scaffold .entry)) (now («delta_g» .entry)) (now (entropy .entry)) (now (logs .entry)) (now (seeds .entry))) (constraints constrained (now (offsets .entry)) (now (tiles .entry))) bay strand (length (now («new_offsets» .entry))) (length (now («new_tiles» .entry))) (length (now (layout .entry))) (length (now (energies .entry))) (length (now (notes .entry))) ⌝ }
-    ensures offsets { λ _. ⌜ now («new_offsets» .exit) ≡ newOffsetsAfter (z .rows) (z .cols) (constraints constrained (now (offsets .entry)) (now (tiles .entry))) bay strand (length (now («new_tiles» .entry))) (now («new_offsets» .entry)) ⌝ }
-    ensures tiles { λ _. ⌜ now («new_tiles» .exit) ≡ newTilesAfter (z .rows) (z .cols) (constraints constrained (now (offsets .entry)) (now (tiles .entry))) bay strand (length (now («new_offsets» .entry))) (now («new_tiles» .entry)) ⌝ }
-    ensures layout { λ _. ⌜ now (layout .exit) ≡ priceLayout (system z (now («strand_glues» .entry)) (now (scaffold .entry)) (now («delta_g» .entry)) (now (entropy .entry)) (now (logs .entry)) (now (seeds .entry))) (constraints constrained (now (offsets .entry)) (now (tiles .entry))) bay strand (length (now («new_offsets» .entry))) (length (now («new_tiles» .entry))) (length (now (energies .entry))) (length (now (notes .entry))) (now (layout .entry)) ⌝ }
-    ensures energies { λ _. ⌜ now (energies .exit) ≡ priceEnergies (system z (now («strand_glues» .entry)) (now (scaffold .entry)) (now («delta_g» .entry)) (now (entropy .entry)) (now (logs .entry)) (now (seeds .entry))) (constraints constrained (now (offsets .entry)) (now (tiles .entry))) bay strand (length (now («new_offsets» .entry))) (length (now («new_tiles» .entry))) (length (now (layout .entry))) (length (now (notes .entry))) (now (energies .entry)) ⌝ }
-    ensures notes { λ _. ⌜ now (notes .exit) ≡ priceNotes (system z (now («strand_glues» .entry)) (now (scaffold .entry)) (now («delta_g» .entry)) (now (entropy .entry)) (now (logs .entry)) (now (seeds .entry))) (constraints constrained (now (offsets .entry)) (now (tiles .entry))) bay strand (length (now («new_offsets» .entry))) (length (now («new_tiles» .entry))) (length (now (layout .entry))) (length (now (energies .entry))) (now (notes .entry)) ⌝ }
+    ensures refusal { λ r. let s = system z (now («strand_glues» .entry)) (now (scaffold .entry)) (now («delta_g» .entry)) (now (entropy .entry)) (now (logs .entry)) (now (seeds .entry)) in
+        let c = constraints constrained (now (offsets .entry)) (now (tiles .entry)) in
+        ⌜ Prints (energyRefusal r) (priceVerdict s c bay strand (length (now (layout .entry))) (length (now (energies .entry))) (length (now (leaving .entry)))) ⌝ }
+    ensures answer { λ r. let s = system z (now («strand_glues» .entry)) (now (scaffold .entry)) (now («delta_g» .entry)) (now (entropy .entry)) (now (logs .entry)) (now (seeds .entry)) in
+        let c = constraints constrained (now (offsets .entry)) (now (tiles .entry)) in
+        ⌜ r ≡ priceAnswer s c bay strand (length (now (layout .entry))) (length (now (energies .entry))) (length (now (leaving .entry))) ⌝ }
+    ensures layout { λ _. let s = system z (now («strand_glues» .entry)) (now (scaffold .entry)) (now («delta_g» .entry)) (now (entropy .entry)) (now (logs .entry)) (now (seeds .entry)) in
+        let c = constraints constrained (now (offsets .entry)) (now (tiles .entry)) in
+        ⌜ now (layout .exit) ≡ priceLayout s c bay strand (length (now (energies .entry))) (length (now (leaving .entry))) (now (layout .entry)) ⌝ }
+    ensures energies { λ _. let s = system z (now («strand_glues» .entry)) (now (scaffold .entry)) (now («delta_g» .entry)) (now (entropy .entry)) (now (logs .entry)) (now (seeds .entry)) in
+        let c = constraints constrained (now (offsets .entry)) (now (tiles .entry)) in
+        ⌜ now (energies .exit) ≡ priceEnergies s c bay strand (length (now (layout .entry))) (length (now (leaving .entry))) (now (energies .entry)) ⌝ }
+    ensures leaving { λ _. let s = system z (now («strand_glues» .entry)) (now (scaffold .entry)) (now («delta_g» .entry)) (now (entropy .entry)) (now (logs .entry)) (now (seeds .entry)) in
+        let c = constraints constrained (now (offsets .entry)) (now (tiles .entry)) in
+        ⌜ now (leaving .exit) ≡ priceNotes s c bay strand (length (now (layout .entry))) (length (now (energies .entry))) (now (leaving .entry)) ⌝ }
 {
-    let places = new_offsets.len();
-    let room = new_tiles.len();
-    match check_choice(z, constrained, offsets, tiles, bay, places, room) {
+    match check_system(z, strand_glues, scaffold, delta_g, entropy, logs, seeds) {
         Check::Refused(r) => return EnergyAnswer::Refused(r),
         Check::Passed => (),
     }
-    let count = with_list_of_one(
-        z.rows * z.cols,
-        constrained,
-        offsets,
-        tiles,
-        bay,
-        strand,
-        new_offsets,
-        new_tiles,
-    );
-    mfe_configuration(
+    match check_choice(z, layout.len(), constrained, offsets, tiles, bay) {
+        Check::Refused(r) => return EnergyAnswer::Refused(r),
+        Check::Passed => (),
+    }
+    run_chosen(
         z,
         strand_glues,
         scaffold,
@@ -140,11 +246,13 @@ pub fn mfe_with_choice(
         entropy,
         logs,
         seeds,
-        true,
-        new_offsets,
-        first_small_numbers(new_tiles, count),
+        constrained,
+        offsets,
+        tiles,
+        bay,
+        strand,
         layout,
         energies,
-        notes,
+        leaving,
     )
 }

@@ -4,7 +4,7 @@ use mathlib.Core.Path.{_≡_, refl, sym, _∙_, ap, ap₂, subst}
 use mathlib.Core.Bool.{Bool, true, false, not}
 use mathlib.Core.List.{List, [], _∷_}
 use mathlib.Core.Logic.{⊎-elim}
-use native.Mathlib.Nat.{eq-or-lt-of-le, le-of-suc-le-suc, zero-mod}
+use native.Mathlib.Nat.{eq-or-lt-of-le, le-of-suc-le-suc, lt-of-lt-of-le, zero-mod}
 use native.Mathlib.Decide.{decLe}
 use native.Mathlib.Omega.{arith}
 use lib.Dec.{eqb, leb}
@@ -17,15 +17,15 @@ use Rattle.beta_energies.specs.Energies.{bayEnergy, edgeEnergy}
 use Rattle.beta_energies.specs.ScanSum.{withBond, bayNumber, scanSumTo, scannedStrand}
 use Rattle.bay_lists.specs.Lists.{Constraints}
 use Rattle.legal_at.specs.Legal.{isLegal}
+use Rattle.legal_at.specs.Layouts.{LayoutBy}
 use Rattle.scan_order.specs.Scan.{byRows, window, bayAt, numberAt}
 use Rattle.legal.specs.Sets.{bays}
 use Rattle.scan_order.proofs.Scanned.{bay-inside, number-inside, scanned, numbered}
 use Rattle.ledger_rows.specs.Scan.{Scan, In, Legal, scanSum}
 use Rattle.ledger_rows.specs.Blocks.{tab}
 use Rattle.ledger_rows.proofs.Lists.{tab-at, length-tab}
-use Rattle.least_layout.specs.Run.{systemScan, rowByRow}
-use Rattle.least_layout.specs.Layouts.{LegalLayout}
-use Rattle.least_layout.proofs.Meaning.{legal-below, in-legal, legal-in, added-is}
+use Rattle.least_layout.specs.Run.{scanBy, systemScan, rowByRow}
+use Rattle.least_layout.proofs.Meaning.{in-may, may-in, added-by, legal-below}
 
 -- what the tests of a system have seen to
 pub record Fit (s : System) : Type 0 where
@@ -85,16 +85,16 @@ module _ (s : System) where
       without : (u : ℕ) → bayNumber s k a u t ≡ alone a t
       without u = rw e
 
-  module _ (c : Constraints) (fit : Fit s) where
+  module _ (may : ℕ → ℕ → Bool) (below : (b t : ℕ) → may b t ≡ true → t < s .sizes .strands) (fit : Fit s) where
     -- ---- legal strands on the first bays, and the filling that they make
-    module _ (strandAt : ℕ → ℕ) (last : ℕ) (inside : last ≤ n) (legal : (j : ℕ) → j < last → isLegal s c (bayAt (s .sizes .rows) (s .sizes .cols) j) (strandAt j) ≡ true) where
+    module _ (strandAt : ℕ → ℕ) (last : ℕ) (inside : last ≤ n) (legal : (j : ℕ) → j < last → may (bayAt (s .sizes .rows) (s .sizes .cols) j) (strandAt j) ≡ true) where
       strand-below : (k : ℕ) → k < last → strandAt k < s .sizes .strands
-      strand-below k h = legal-below s c _ (strandAt k) (legal k h)
+      strand-below k h = below _ (strandAt k) (legal k h)
 
-      pub strands-legal : (k : ℕ) → k ≤ last → Legal (systemScan s c) k (newestFirst strandAt k)
+      pub strands-by : (k : ℕ) → k ≤ last → Legal (scanBy s may) k (newestFirst strandAt k)
       unfolding newestFirst
-      strands-legal zero h = tt
-      strands-legal (suc k) h = (legal-in s c k (strandAt k) (omega (arith, h, inside)) (fit .strands) (legal k h), strands-legal k (omega (arith, h)))
+      strands-by zero h = tt
+      strands-by (suc k) h = (may-in s may k (strandAt k) (omega (arith, h, inside)) (lt-of-lt-of-le (strand-below k h) (fit .strands)) (legal k h), strands-by k (omega (arith, h)))
 
       -- the strand of the previous major line, where there is one
       before-is : (k : ℕ) → k < last → (u t : ℕ)
@@ -126,85 +126,106 @@ module _ (s : System) where
           let earlier : suc k - 1 < last = omega (arith, h) in
           (subst (λ (u : ℕ). u < s .sizes .strands) (sym same) (strand-below (suc k - 1) earlier), ap (λ (u : ℕ). bayNumber s (suc k) a u t) same)
 
-      pub strands-sum : (k : ℕ) → k ≤ last → scanSum (systemScan s c) (newestFirst strandAt k) ≡ scanSumTo s strandAt k
+      pub strands-sum-by : (k : ℕ) → k ≤ last → scanSum (scanBy s may) (newestFirst strandAt k) ≡ scanSumTo s strandAt k
       unfolding newestFirst scanSum scanSumTo
-      strands-sum zero h = refl
-      strands-sum (suc k) h =
+      strands-sum-by zero h = refl
+      strands-sum-by (suc k) h =
           let f = newestFirst strandAt k in
           let a = getD f (m - 1) 0 in
           let u = getD f 0 0 in
           let t = strandAt k in
           let before = before-is k h u t in
           let beside = beside-is k h (strandAt (k - m)) t in
-          ap₂ (add binary64) (strands-sum k (omega (arith, h)))
-          (ap (λ (j : ℕ). systemScan s c .added j a u t) (length-newest strandAt k) ∙ added-is s c k a u t (omega (arith, h, inside)) (fit .strands) (before .0) (beside .0) (strand-below k h) ∙ before .1 ∙ beside .1)
+          ap₂ (add binary64) (strands-sum-by k (omega (arith, h)))
+          (ap (λ (j : ℕ). scanBy s may .added j a u t) (length-newest strandAt k) ∙ added-by s may k a u t (omega (arith, h, inside)) (fit .strands) (before .0) (beside .0) (strand-below k h) ∙ before .1 ∙ beside .1)
 
     -- ---- from a layout to its filling
-    module _ (layout : List ℕ) (legal : LegalLayout s c layout) where
-      strand-legal : (k : ℕ) → k < n → isLegal s c (bayAt (s .sizes .rows) (s .sizes .cols) k) (scannedStrand s layout k) ≡ true
+    module _ (layout : List ℕ) (legal : LayoutBy s may layout) where
+      strand-legal : (k : ℕ) → k < n → may (bayAt (s .sizes .rows) (s .sizes .cols) k) (scannedStrand s layout k) ≡ true
       strand-legal k h = legal .each (bayAt (s .sizes .rows) (s .sizes .cols) k) (bay-inside (s .sizes .rows) (s .sizes .cols) k h)
 
-      pub filling-legal : (k : ℕ) → k ≤ n → Legal (systemScan s c) k (fillingTo s layout k)
-      filling-legal = strands-legal (scannedStrand s layout) n (omega arith) strand-legal
+      pub filling-by : (k : ℕ) → k ≤ n → Legal (scanBy s may) k (fillingTo s layout k)
+      filling-by = strands-by (scannedStrand s layout) n (omega arith) strand-legal
 
-      pub filling-sum : (k : ℕ) → k ≤ n → scanSum (systemScan s c) (fillingTo s layout k) ≡ scanSumTo s (scannedStrand s layout) k
-      filling-sum = strands-sum (scannedStrand s layout) n (omega arith) strand-legal
+      pub sum-by : (k : ℕ) → k ≤ n → scanSum (scanBy s may) (fillingTo s layout k) ≡ scanSumTo s (scannedStrand s layout) k
+      sum-by = strands-sum-by (scannedStrand s layout) n (omega arith) strand-legal
 
     -- ---- a legal filling has a legal strand on each bay
-    pub legal-long : (k : ℕ) (g : List ℕ) → Legal (systemScan s c) k g → length g ≡ k
-    legal-long zero [] l = refl
-    legal-long zero (t ∷ g) l = absurd l
-    legal-long (suc k) [] l = absurd l
-    legal-long (suc k) (t ∷ g) l = ap suc (legal-long k g (l .1))
+    pub long-by : (k : ℕ) (g : List ℕ) → Legal (scanBy s may) k g → length g ≡ k
+    long-by zero [] l = refl
+    long-by zero (t ∷ g) l = absurd l
+    long-by (suc k) [] l = absurd l
+    long-by (suc k) (t ∷ g) l = ap suc (long-by k g (l .1))
 
-    each-in : (j : ℕ) (g : List ℕ) → Legal (systemScan s c) j g → (k : ℕ) → k < j → In (systemScan s c .strands k) (getD g (j - suc k) 0)
+    each-in : (j : ℕ) (g : List ℕ) → Legal (scanBy s may) j g → (k : ℕ) → k < j → In (scanBy s may .strands k) (getD g (j - suc k) 0)
     each-in zero g l k h = absurd (omega (arith, h))
     each-in (suc j) [] l k h = absurd l
     each-in (suc j) (t ∷ g) l k h = ⊎-elim newest (earlier (each-in j g (l .1) k)) (eq-or-lt-of-le (le-of-suc-le-suc h))
       where
-        newest : k ≡ j → In (systemScan s c .strands k) (getD (t ∷ g) (suc j - suc k) 0)
+        newest : k ≡ j → In (scanBy s may .strands k) (getD (t ∷ g) (suc j - suc k) 0)
         newest e =
             let first : suc j - suc k ≡ 0 = omega (arith, e) in
-            subst (λ (i : ℕ). In (systemScan s c .strands k) (getD (t ∷ g) i 0)) (sym first) (subst (λ (i : ℕ). In (systemScan s c .strands i) t) (sym e) (l .0))
+            subst (λ (i : ℕ). In (scanBy s may .strands k) (getD (t ∷ g) i 0)) (sym first) (subst (λ (i : ℕ). In (scanBy s may .strands i) t) (sym e) (l .0))
 
-        earlier : (k < j → In (systemScan s c .strands k) (getD g (j - suc k) 0)) → k < j → In (systemScan s c .strands k) (getD (t ∷ g) (suc j - suc k) 0)
+        earlier : (k < j → In (scanBy s may .strands k) (getD g (j - suc k) 0)) → k < j → In (scanBy s may .strands k) (getD (t ∷ g) (suc j - suc k) 0)
         earlier old b =
             let next : suc j - suc k ≡ suc (j - suc k) = omega (arith, b) in
-            subst (λ (i : ℕ). In (systemScan s c .strands k) (getD (t ∷ g) i 0)) (sym next) (old b)
+            subst (λ (i : ℕ). In (scanBy s may .strands k) (getD (t ∷ g) i 0)) (sym next) (old b)
 
-    pub each-legal : (j : ℕ) (g : List ℕ) → Legal (systemScan s c) j g → j ≤ n → (k : ℕ) → k < j
-        → isLegal s c (bayAt (s .sizes .rows) (s .sizes .cols) k) (getD g (j - suc k) 0) ≡ true
-    each-legal j g l inside k h = in-legal s c k (getD g (j - suc k) 0) (omega (arith, h, inside)) (each-in j g l k h)
+    pub each-by : (j : ℕ) (g : List ℕ) → Legal (scanBy s may) j g → j ≤ n → (k : ℕ) → k < j
+        → may (bayAt (s .sizes .rows) (s .sizes .cols) k) (getD g (j - suc k) 0) ≡ true
+    each-by j g l inside k h = in-may s may k (getD g (j - suc k) 0) (omega (arith, h, inside)) (each-in j g l k h)
 
     -- ---- from a filling to its layout
-    module _ (f : List ℕ) (legal : Legal (systemScan s c) n f) where
+    module _ (f : List ℕ) (legal : Legal (scanBy s may) n f) where
       abbrev laid : List ℕ
       laid = rowByRow (s .sizes .rows) (s .sizes .cols) f
 
       laid-at : (bay : ℕ) → bay < n → getD laid bay 0 ≡ getD f (n - suc (numberAt (s .sizes .rows) (s .sizes .cols) bay)) 0
       laid-at bay h = tab-at (λ (b : ℕ). getD f (n - suc (numberAt (s .sizes .rows) (s .sizes .cols) b)) 0) n bay 0 h
 
-      pub layout-legal : LegalLayout s c laid
-      layout-legal = record { long = length-tab (λ (b : ℕ). getD f (n - suc (numberAt (s .sizes .rows) (s .sizes .cols) b)) 0) n; each = each }
+      pub layout-by : LayoutBy s may laid
+      layout-by = record { long = length-tab (λ (b : ℕ). getD f (n - suc (numberAt (s .sizes .rows) (s .sizes .cols) b)) 0) n; each = each }
         where
-          each : (bay : ℕ) → bay < n → isLegal s c bay (getD laid bay 0) ≡ true
+          each : (bay : ℕ) → bay < n → may bay (getD laid bay 0) ≡ true
           each bay h =
               let k = numberAt (s .sizes .rows) (s .sizes .cols) bay in
               let inside = number-inside (s .sizes .rows) (s .sizes .cols) bay h in
-              ap₂ (isLegal s c) (sym (scanned (s .sizes .rows) (s .sizes .cols) bay h)) (laid-at bay h) ∙ each-legal n f legal (omega arith) k inside
+              ap₂ may (sym (scanned (s .sizes .rows) (s .sizes .cols) bay h)) (laid-at bay h) ∙ each-by n f legal (omega arith) k inside
 
       -- the layout's filling is the filling
       back-to : (k : ℕ) → k ≤ n → fillingTo s laid k ≡ drop (n - k) f
       unfolding newestFirst
-      back-to zero h = let all : length f ≤ n - 0 = omega (arith, legal-long n f legal) in sym (drop-of-length-le f all)
+      back-to zero h = let all : length f ≤ n - 0 = omega (arith, long-by n f legal) in sym (drop-of-length-le f all)
       back-to (suc k) h =
           let bay = bayAt (s .sizes .rows) (s .sizes .cols) k in
           let place : suc (n - suc k) ≡ n - k = omega (arith, h) in
-          let inside : n - suc k < length f = omega (arith, h, legal-long n f legal) in
+          let inside : n - suc k < length f = omega (arith, h, long-by n f legal) in
           let own : scannedStrand s laid k ≡ getD f (n - suc k) 0 =
           laid-at bay (bay-inside (s .sizes .rows) (s .sizes .cols) k h)
           ∙ ap (λ (j : ℕ). getD f (n - suc j) 0) (numbered (s .sizes .rows) (s .sizes .cols) k h) in
           ap₂ (λ (t : ℕ) (g : List ℕ). t ∷ g) own (back-to k (omega (arith, h)) ∙ ap (λ (j : ℕ). drop j f) (sym place)) ∙ sym (drop-cons f (n - suc k) 0 inside)
 
-      pub filling-back : fillingTo s laid n ≡ f
-      filling-back = let none : n - n ≡ 0 = omega arith in back-to n (omega arith) ∙ ap (λ (j : ℕ). drop j f) none
+      pub back-by : fillingTo s laid n ≡ f
+      back-by = let none : n - n ≡ 0 = omega arith in back-to n (omega arith) ∙ ap (λ (j : ℕ). drop j f) none
+
+-- ---- of the legal strands
+module _ (s : System) (c : Constraints) (fit : Fit s) where
+  module _ (strandAt : ℕ → ℕ) (last : ℕ) (inside : last ≤ bays (s .sizes))
+      (legal : (j : ℕ) → j < last → isLegal s c (bayAt (s .sizes .rows) (s .sizes .cols) j) (strandAt j) ≡ true)
+    where
+      pub strands-legal : (k : ℕ) → k ≤ last → Legal (systemScan s c) k (newestFirst strandAt k)
+      strands-legal = strands-by s (isLegal s c) (legal-below s c) fit strandAt last inside legal
+
+      pub strands-sum : (k : ℕ) → k ≤ last → scanSum (systemScan s c) (newestFirst strandAt k) ≡ scanSumTo s strandAt k
+      strands-sum = strands-sum-by s (isLegal s c) (legal-below s c) fit strandAt last inside legal
+
+  pub legal-long : (k : ℕ) (g : List ℕ) → Legal (systemScan s c) k g → length g ≡ k
+  legal-long = long-by s (isLegal s c) (legal-below s c) fit
+
+  pub each-legal : (j : ℕ) (g : List ℕ) → Legal (systemScan s c) j g → j ≤ bays (s .sizes) → (k : ℕ) → k < j
+      → isLegal s c (bayAt (s .sizes .rows) (s .sizes .cols) k) (getD g (j - suc k) 0) ≡ true
+  each-legal = each-by s (isLegal s c) (legal-below s c) fit
+
+  pub filling-back : (f : List ℕ) → Legal (systemScan s c) (bays (s .sizes)) f → fillingTo s (rowByRow (s .sizes .rows) (s .sizes .cols) f) (bays (s .sizes)) ≡ f
+  filling-back = back-by s (isLegal s c) (legal-below s c) fit

@@ -1,8 +1,8 @@
--- What passed tests give a run: sizes that fit, and a legal strand on each bay. Assumes nothing.
-use Prim.Native.Nat.{ℕ, _*_, _≤_, _<_}
-use mathlib.Core.Path.{_≡_, refl, sym, _∙_, ap, subst}
+-- What passed tests give a run: sizes that fit, and a strand that may lie there for each bay. Assumes nothing.
+use Prim.Native.Nat.{ℕ, _≤_, _<_}
+use mathlib.Core.Path.{_≡_, refl, sym, _∙_, ap}
 use mathlib.Core.Bool.{Bool, true, false, cond}
-use mathlib.Core.List.{List, [], _∷_}
+use mathlib.Core.List.{List}
 use native.Mathlib.Decide.{decLt}
 use native.Mathlib.Omega.{arith}
 use lib.Dec.{leb}
@@ -16,16 +16,16 @@ use Rattle.sdc2d.specs.System.{System}
 use Rattle.sdc2d.proofs.Fine.{Fine}
 use Rattle.bay_lists.specs.Lists.{Constraints}
 use Rattle.legal_at.specs.Legal.{isLegal}
-use Rattle.scan_order.specs.Scan.{window, bayAt}
-use Rattle.legal.specs.Sets.{bays, setsOf, emptyVerdict}
+use Rattle.scan_order.specs.Scan.{bayAt}
+use Rattle.legal.specs.Sets.{bays, setsTo, setsOf, emptyVerdict}
 use Rattle.scan_order.proofs.Scanned.{bay-inside}
 use Rattle.legal.proofs.Seven.{seven, set-of-bay}
 use Rattle.ledger_rows.specs.Scan.{Filled}
-use Rattle.least_layout.specs.Run.{systemScan}
-use Rattle.least_layout.specs.Layouts.{LeastLayoutTheorem}
-use Rattle.least_layout.proofs.Meaning.{strands-are}
+use Rattle.least_layout.specs.Run.{scanBy, systemScan}
+use Rattle.least_layout.specs.Layouts.{LeastBy, LeastLayoutTheorem}
+use Rattle.least_layout.proofs.Meaning.{strands-by, legal-below}
 use Rattle.least_layout.proofs.Fillings.{Fit}
-use Rattle.least_layout.proofs.TheRunIsRight.{the-run-is-right}
+use Rattle.least_layout.proofs.TheRunIsRight.{right-by}
 
 -- the shorter side of a grid is there
 some-side : (b : Bool) (rows cols : ℕ) → 1 ≤ rows → 1 ≤ cols → 1 ≤ cond b cols rows
@@ -52,23 +52,31 @@ no-members p e = word-same p (λ t. false) 64 (λ t h. by t h (p t) refl) ∙ wo
 not-both : (v : Verdict) (values : List ℕ) → v ≡ passes → v ≡ refuses 7 values → ⊥
 not-both v values e f = let same : _≡_ {A = ℕ} 0 7 = ap numberIn (sym e ∙ f) in absurd (omega (arith, same))
 
-pub filled : (s : System) (c : Constraints) → emptyVerdict (s .sizes .rows) (s .sizes .cols) (setsOf s c) ≡ passes → Filled (systemScan s c) (bays (s .sizes))
-filled s c passed k h = by (decLt 0 (length (systemScan s c .strands k)))
+pub filled-by : (s : System) (may : ℕ → ℕ → Bool) → emptyVerdict (s .sizes .rows) (s .sizes .cols) (setsTo may (bays (s .sizes))) ≡ passes → Filled (scanBy s may) (bays (s .sizes))
+filled-by s may passed k h = by (decLt 0 (length (scanBy s may .strands k)))
   where
     bay : ℕ
     bay = bayAt (s .sizes .rows) (s .sizes .cols) k
 
-    by : Dec (0 < length (systemScan s c .strands k)) → 0 < length (systemScan s c .strands k)
+    by : Dec (0 < length (scanBy s may .strands k)) → 0 < length (scanBy s may .strands k)
     by (yes l) = l
     by (no l) =
         let inside = bay-inside (s .sizes .rows) (s .sizes .cols) k h in
-        let none : length (members (isLegal s c bay) 64) ≡ 0 = sym (ap length (strands-are s c k h)) ∙ zero-length l in
-        let empty : getD (setsOf s c) bay 0 ≡ 0 = set-of-bay (isLegal s c) (bays (s .sizes)) bay inside ∙ no-members (isLegal s c bay) none in
-        absurd (not-both (emptyVerdict (s .sizes .rows) (s .sizes .cols) (setsOf s c)) _ passed (seven (s .sizes .rows) (s .sizes .cols) (setsOf s c) bay inside empty .0))
+        let none : length (members (may bay) 64) ≡ 0 = sym (ap length (strands-by s may k h)) ∙ zero-length l in
+        let empty : getD (setsTo may (bays (s .sizes))) bay 0 ≡ 0 = set-of-bay may (bays (s .sizes)) bay inside ∙ no-members (may bay) none in
+        absurd (not-both (emptyVerdict (s .sizes .rows) (s .sizes .cols) (setsTo may (bays (s .sizes)))) _ passed (seven (s .sizes .rows) (s .sizes .cols) (setsTo may (bays (s .sizes))) bay inside empty .0))
       where
-        zero-length : (0 < length (systemScan s c .strands k) → ⊥) → length (systemScan s c .strands k) ≡ 0
+        zero-length : (0 < length (scanBy s may .strands k) → ⊥) → length (scanBy s may .strands k) ≡ 0
         zero-length g = omega (arith, g)
 
 -- once the tests before the ledger have passed, the run is what the customer asks for
+pub least-by : (s : System) (may : ℕ → ℕ → Bool) (below : (b t : ℕ) → may b t ≡ true → t < s .sizes .strands) → Fine s
+    → emptyVerdict (s .sizes .rows) (s .sizes .cols) (setsTo may (bays (s .sizes))) ≡ passes → LeastBy s may
+least-by s may below f e = right-by s may below (fit s f) (filled-by s may e)
+
+-- ---- of the legal strands
+pub filled : (s : System) (c : Constraints) → emptyVerdict (s .sizes .rows) (s .sizes .cols) (setsOf s c) ≡ passes → Filled (systemScan s c) (bays (s .sizes))
+filled s c = filled-by s (isLegal s c)
+
 pub run-is-right : (s : System) (c : Constraints) → Fine s → emptyVerdict (s .sizes .rows) (s .sizes .cols) (setsOf s c) ≡ passes → LeastLayoutTheorem s c
-run-is-right s c f e = the-run-is-right s c (fit s f) (filled s c e)
+run-is-right s c = least-by s (isLegal s c) (legal-below s c)

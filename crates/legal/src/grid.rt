@@ -15,7 +15,7 @@ use units::Check;
 use units::Refusal;
 
 // Writes the sets of all bays, row by row, to the front of a table; the rest of it stays.
-fn fill_sets(
+pub fn fill_sets(
     z: Sizes,
     strand_glues: &[u32],
     scaffold: &[u32],
@@ -67,7 +67,7 @@ fn first_empty(rows: usize, cols: usize, sets: &[u64]) -> usize
 }
 
 // Refusal 7.
-fn check_empty(rows: usize, cols: usize, sets: &[u64]) -> Check
+pub fn check_empty(rows: usize, cols: usize, sets: &[u64]) -> Check
     requires { ⌜ (rows ≤ 32) × (cols ≤ 32) × (length (now sets) ≡ rows * cols) ⌝ }
     ensures { λ r. ⌜ r ≡ check (emptyVerdict rows cols (now (sets .entry))) ⌝ }
 {

@@ -1,7 +1,7 @@
 -- Legal layouts, and legal fillings of the first bays in scan order. Assumes nothing.
 use Prim.Native.Nat.{ℕ, _<_}
 use mathlib.Core.Path.{_≡_}
-use mathlib.Core.Bool.{true}
+use mathlib.Core.Bool.{Bool, true}
 use mathlib.Core.List.{List}
 use lib.ListN.{length, getD}
 use Rattle.sets.specs.Set.{members}
@@ -10,10 +10,14 @@ use Rattle.bay_lists.specs.Lists.{Constraints}
 use Rattle.scan_order.specs.Scan.{bayAt}
 use Rattle.legal_at.specs.Legal.{isLegal}
 
--- a strand for each bay, row by row, each legal where it lies
-pub record LegalLayout (s : System) (c : Constraints) (layout : List ℕ) : Type 0 where
+-- a strand for each bay, row by row, each of which may lie there, as any test has it
+pub record LayoutBy (s : System) (may : (bay strand : ℕ) → Bool) (layout : List ℕ) : Type 0 where
   pub long : length layout ≡ bays (s .sizes)
-  pub each : (bay : ℕ) → bay < bays (s .sizes) → isLegal s c bay (getD layout bay 0) ≡ true
+  pub each : (bay : ℕ) → bay < bays (s .sizes) → may bay (getD layout bay 0) ≡ true
+
+-- each legal where it lies
+abbrev pub LegalLayout : System → Constraints → (layout : List ℕ) → Type 0
+LegalLayout s c layout = LayoutBy s (isLegal s c) layout
 
 -- a strand for each of the first k bays in scan order, each legal where it lies
 pub record LegalFilling (s : System) (c : Constraints) (k : ℕ) (filling : List ℕ) : Type 0 where

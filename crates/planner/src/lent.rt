@@ -68,18 +68,12 @@ pub(crate) fn choice_lent(
     tiles: &[u32],
     bay: usize,
     strand: u32,
-    new_offsets: &mut [usize],
-    new_tiles: &mut [u32],
     layout: &mut [u32],
     energies: &mut [f64],
     notes: &mut [u8],
 ) -> EnergyAnswer {
     let bays = scaffold.len();
     if layout.len() < bays {
-        return EnergyAnswer::Refused(too_large());
-    }
-    let places = offsets.len();
-    if new_offsets.len() < places {
         return EnergyAnswer::Refused(too_large());
     }
     mfe_with_choice(
@@ -95,8 +89,6 @@ pub(crate) fn choice_lent(
         tiles,
         bay,
         strand,
-        &mut new_offsets[0..places],
-        new_tiles,
         &mut layout[0..bays],
         energies,
         notes,

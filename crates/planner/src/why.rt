@@ -227,7 +227,7 @@ fn tile_of(number: usize) -> u32 {
     64
 }
 
-// The least energy with a strand at a bay, over tables for the constraints that say so.
+// The least energy with a strand at a bay.
 fn price_of(
     z: Sizes,
     strand_glues: &[u32],
@@ -243,8 +243,6 @@ fn price_of(
     energies: &mut [f64],
     notes: &mut [u8],
 ) -> EnergyAnswer {
-    let mut new_offsets = [0usize; 1025];
-    let mut new_tiles = [0u32; 65537];
     let mut layout = [0u32; 1024];
     choice_lent(
         z,
@@ -258,8 +256,6 @@ fn price_of(
         tiles,
         bay,
         strand,
-        &mut new_offsets,
-        &mut new_tiles,
         &mut layout,
         energies,
         notes,

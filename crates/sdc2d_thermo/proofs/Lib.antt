@@ -1,4 +1,2 @@
-pub mod Finishing
-pub mod Grids
 pub mod Promised
 pub mod Unique

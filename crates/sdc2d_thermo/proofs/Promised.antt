@@ -1,18 +1,18 @@
 -- From the finished run to the call's promises. Assumes nothing.
 use Prim.Native.Nat.{ℕ, _*_}
-use mathlib.Core.Path.{_≡_, refl, sym, _∙_, ap}
-use mathlib.Core.Bool.{Bool, not, _&&_, _||_}
+use mathlib.Core.Path.{_≡_, refl}
+use mathlib.Core.Bool.{not, _&&_, _||_}
 use mathlib.Core.List.{List, [], _∷_}
 use lib.Dec.{ltb, eqb}
 use lib.Ieee.{Float}
 use lib.ListN.{length}
 use Rattle.units.specs.declared.EnergyAnswer.{EnergyAnswer}
 use Rattle.units.specs.Answers.{energyRefusal}
-use Rattle.units.specs.Refusals.{Verdict, refuseIf, _▷_, Prints}
+use Rattle.units.specs.Refusals.{refuseIf, _▷_, Prints}
 use Rattle.units.proofs.Verdicts.{Tabled, tabled-if, tabled-then}
 use Rattle.units.proofs.Answers.{given, an-energy}
 use Rattle.beta_energies.specs.Energies.{noEnergy}
-use Rattle.state_energy.specs.StateG.{energyVerdict, inKcal}
+use Rattle.state_energy.specs.StateG.{inKcal}
 use Rattle.sdc2d.specs.System.{System, systemVerdict}
 use Rattle.sdc2d.proofs.Tabled.{system-tabled}
 use Rattle.bay_lists.specs.Lists.{Constraints, offsetsShaped}
@@ -20,7 +20,7 @@ use Rattle.legal.specs.Sets.{bays, setsOf, shapeVerdict, firstEmpty, emptyVerdi
 use Rattle.least_layout.specs.Run.{systemScan, runNeed, leastSum}
 use Rattle.sdc2d_thermo.specs.Run.{earlyVerdict, sumVerdict, runVerdict, mfeAnswer, layoutAfter, energiesAfter, notesAfter}
 use Rattle.run_room.specs.Room.{roomVerdict}
-use Rattle.sdc2d_thermo.specs.Steps.{Finished}
+use Rattle.sets_run.specs.Finished.{Finished}
 
 -- every refusal has the values of its row
 run-tabled : (s : System) (c : Constraints) (layout energies notes : ℕ) → Tabled (runVerdict s c layout energies notes)

@@ -1,8 +1,8 @@
 -- The least-energy run as a call: what is refused of it, its answer, and what it leaves in the three lent slices. Assumes nothing.
 use Prim.Native.Nat.{ℕ}
-use mathlib.Core.List.{List, _++_}
+use mathlib.Core.List.{List}
 use lib.Ieee.{Float, binary64, ofBits}
-use lib.ListN.{length, drop, replicate}
+use lib.ListN.{length}
 use Rattle.units.specs.declared.EnergyAnswer.{EnergyAnswer}
 use Rattle.units.specs.Answers.{energyAnswer}
 use Rattle.units.specs.Refusals.{Verdict, _▷_, ifPasses}
@@ -13,6 +13,7 @@ use Rattle.legal.specs.Sets.{bays, setsOf, shapeVerdict, emptyVerdict}
 use Rattle.ledger_rows.specs.Blocks.{energyTable, noteTable}
 use Rattle.run_room.specs.Room.{roomVerdict}
 use Rattle.least_layout.specs.Run.{systemScan, runNeed, leastSum, leastLayout}
+use Rattle.sets_run.specs.Finished.{tableAfter}
 
 -- what is refused before anything is written: 1 to 4, 5, 7, 8, 9
 abbrev pub earlyVerdict : System → Constraints → (layout energies notes : ℕ) → Verdict
@@ -34,14 +35,7 @@ abbrev pub mfeAnswer : System → Constraints → (layout energies notes : ℕ) 
 mfeAnswer s c layout energies notes =
     energyAnswer (runVerdict s c layout energies notes) (inKcal (leastSum s c) (s .sizes .kelvin))
 
--- the front of a table written anew
-abbrev pub front : {A : Type 0} → (new old : List A) → List A
-front new old = new ++ drop (length new) old
-
--- what a lent table holds afterwards: refused earlier, what it held; refused as 10, zeros in the needed places; else the ledger
-abbrev pub tableAfter : {A : Type 0} → (early last : Verdict) → (count : ℕ) → (zero : A) → (new old : List A) → List A
-tableAfter early last count zero new old = ifPasses early (front (ifPasses last new (replicate count zero)) old) old
-
+-- what the three lent slices hold afterwards
 abbrev pub layoutAfter : System → Constraints → (energies notes : ℕ) → (old : List ℕ) → List ℕ
 layoutAfter s c energies notes old = ifPasses (runVerdict s c (length old) energies notes) (leastLayout s c) old
 

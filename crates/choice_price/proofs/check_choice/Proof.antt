@@ -1,79 +1,61 @@
--- `choice_price::check_choice` meets its contract, test by test. Assumes nothing.
-use Prim.Native.Nat.{ℕ, _+_, _*_, _≤_}
-use mathlib.Core.Path.{sym, _∙_}
-use mathlib.Core.Bool.{Bool}
+-- `choice_price::check_choice` meets its contract: the shape, then the bay. Assumes nothing.
+use Prim.Native.Nat.{_*_, _≤_}
+use mathlib.Core.List.{[]}
+use native.Mathlib.Nat.{mul-le-mul}
 use native.Mathlib.Omega.{arith}
 use lib.Dec.{leb}
-use lib.ListN.{length}
 use denote.Ref.{now}
 use borrow.Author.Needs.{needs}
-use borrow.Author.Tests.{not-false, le-leb, lt-leb}
-use Rattle.bay_lists.specs.Lists.{constraints}
-use Rattle.choice_price.specs.Price.{sidesFit, choiceFits}
-use Rattle.choice_price.proofs.Choices.{refused-1, refused-5, refused-9, none-refused, few-bays}
+use Rattle.units.specs.Refusals.{refuseIf}
+use Rattle.units.proofs.Verdicts.{refused-first}
+use Rattle.bay_lists.specs.Lists.{Constraints, constraints}
+use Rattle.legal.specs.Sets.{bays, shapeVerdict}
+use Rattle.choice_price.proofs.Choices.{off-grid, on-grid}
 use Rattle.choice_price.proofs.check_choice.Statement.{statement}
 use Rattle.choice_price.proofs.check_choice.Tie as tie
 
--- what each test is about
-abbrev sides : tie.Start → Bool
-sides s = sidesFit (s .args .z .rows) (s .args .z .cols)
+abbrev lists : tie.Start → Constraints
+lists s = constraints (s .args .constrained) (now (s .args .offsets)) (now (s .args .tiles))
 
-abbrev fits : tie.Start → Bool
-fits s = let a = s .args in choiceFits (a .z .rows * a .z .cols) (constraints (a .constrained) (now (a .offsets)) (now (a .tiles))) (a .bay) (a .places)
+few-bays : (s : tie.Start) → s .args .z .rows * s .args .z .cols ≤ 1024
+few-bays s = mul-le-mul (s .pre .0) (s .pre .1)
 
-abbrev short : tie.Start → Bool
-short s = leb (s .args .room) (length (now (s .args .tiles)))
+check-shape-requires : tie.Need-check-shape-requires
+check-shape-requires c κs = search needs
 
-abbrev need : tie.Start → ℕ
-need s = length (now (s .args .tiles)) + 1
-
-few : (c : tie.Else1) → let a = c .before .before .before .before .args in a .z .rows * a .z .cols ≤ 1024
-few c = let a = c .before .before .before .before .args in few-bays (a .z .rows) (a .z .cols) (sym (c .before .sides-fit .ensures) ∙ not-false _ (c .if1 .left))
-
-sides-fit-requires : tie.Need-sides-fit-requires
-sides-fit-requires c κs = search needs
+enum-known-r : tie.Need-enum-known-r
+enum-known-r c = search needs
 
 returns : tie.Need-returns
-returns c = let s = c .before .before .before .before in refused-1 (sides s) (fits s) (short s) (need s) (c .before .sides-fit .ensures) (c .if1 .taken)
+returns c =
+    let tested = c .before .before .before in
+    let s = tested .before .before .before in
+    let a = s .args in
+    refused-first (shapeVerdict (a .z) (a .lent) (lists s)) (refuseIf (leb (bays (a .z)) (a .bay)) 5 []) (tested .check-shape .ensures) (c .before .r .given .1)
 
-mul-choice-fits : tie.Need-mul-choice-fits
-mul-choice-fits c = omega (arith, few (c .before))
+enum-told : tie.Need-enum-told
+enum-told c = search needs
 
-choice-fits-requires : tie.Need-choice-fits-requires
-choice-fits-requires c κs = few (c .before)
+mul-if1 : tie.Need-mul-if1
+mul-if1 c = omega (arith, few-bays (c .before .before .before .before .before .before))
 
 returns-2 : tie.Need-returns-2
 returns-2 c =
-    let first = c .before .before .before in
-    let s = first .before .before .before .before in
-    refused-5 (sides s) (fits s) (short s) (need s) (first .before .sides-fit .ensures) (first .if1 .left) (c .before .choice-fits .ensures) (c .if2 .taken)
-
-add-t14 : tie.Need-add-t14
-add-t14 c = search needs
+    let told = c .before .before in
+    let tested = told .before .before in
+    let s = tested .before .before .before in
+    let a = s .args in
+    off-grid (a .z) (a .lent) (lists s) (a .bay) (tested .check-shape .ensures) (told .enum-told .given .1) (c .if1 .taken)
 
 returns-3 : tie.Need-returns-3
 returns-3 c =
-    let second = c .before in
-    let first = second .before .before .before in
-    let s = first .before .before .before .before in
-    refused-9 (sides s) (fits s) (short s) (need s) (first .before .sides-fit .ensures) (first .if1 .left) (second .before .choice-fits .ensures) (second .if2 .left) (le-leb _ _ (c .if3 .taken))
-
-returns-4 : tie.Need-returns-4
-returns-4 c =
-    let second = c .before in
-    let first = second .before .before .before in
-    let s = first .before .before .before .before in
-    none-refused (sides s) (fits s) (short s) (need s) (first .before .sides-fit .ensures) (first .if1 .left) (second .before .choice-fits .ensures) (second .if2 .left) (lt-leb _ _ (c .if3 .left))
+    let told = c .before .before in
+    let tested = told .before .before in
+    let s = tested .before .before .before in
+    let a = s .args in
+    on-grid (a .z) (a .lent) (lists s) (a .bay) (tested .check-shape .ensures) (told .enum-told .given .1) (c .if1 .left)
 
 pub check-choice-spec : {M : Type 1} → statement M
 check-choice-spec =
     tie.close
-    (tie.spec
-    sides-fit-requires
-    returns
-    mul-choice-fits
-    choice-fits-requires
-    returns-2
-    add-t14
-    returns-3
-    returns-4)
+    (tie.spec check-shape-requires enum-known-r returns enum-told mul-if1 returns-2 returns-3)

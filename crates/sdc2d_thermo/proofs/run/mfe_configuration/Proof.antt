@@ -1,19 +1,18 @@
 -- `sdc2d_thermo::run::mfe_configuration` meets its contract: the chain of tests, then the run. Assumes nothing.
-use Prim.Native.Nat.{ℕ}
-use mathlib.Core.Path.{_≡_, sym, _∙_, ap}
+use mathlib.Core.Path.{_≡_, _∙_}
 use lib.ListN.{length}
 use denote.Ref.{now}
 use borrow.Author.Needs.{needs}
-use Rattle.units.specs.Refusals.{Verdict, passes, _▷_, check}
+use Rattle.units.specs.Refusals.{Verdict, passes, _▷_}
 use Rattle.units.proofs.Verdicts.{passed, refused-first}
 use Rattle.sdc2d.specs.System.{System, system, systemVerdict}
-use Rattle.sdc2d.proofs.Fine.{Fine, fine}
+use Rattle.sdc2d.proofs.Fine.{fine}
 use Rattle.bay_lists.specs.Lists.{Constraints, constraints}
 use Rattle.legal.specs.Sets.{setsOf, shapeVerdict, emptyVerdict}
 use Rattle.least_layout.specs.Run.{systemScan, runNeed}
 use Rattle.sdc2d_thermo.specs.Run.{earlyVerdict}
 use Rattle.run_room.specs.Room.{roomVerdict}
-use Rattle.sdc2d_thermo.proofs.Finishing.{stop, past}
+use Rattle.sets_run.proofs.Finishing.{stop, past}
 use Rattle.sdc2d_thermo.proofs.Promised.{promised}
 use Rattle.sdc2d_thermo.proofs.run.mfe_configuration.Statement.{statement}
 use Rattle.sdc2d_thermo.proofs.run.mfe_configuration.Tie as tie

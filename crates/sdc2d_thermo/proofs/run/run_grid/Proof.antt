@@ -1,22 +1,21 @@
 -- `sdc2d_thermo::run::run_grid` meets its contract: 7, or the run over the sets. Assumes nothing.
-use Prim.Native.Nat.{ℕ, _*_}
-use mathlib.Core.Path.{_≡_, sym, _∙_, ap, subst}
+use Prim.Native.Nat.{ℕ}
+use mathlib.Core.Path.{_≡_, _∙_, subst}
 use mathlib.Core.List.{List}
 use lib.ListN.{length}
 use denote.Ref.{now}
 use borrow.Author.Needs.{needs}
-use Rattle.units.specs.Refusals.{Verdict, passes, _▷_, check}
+use Rattle.units.specs.Refusals.{Verdict, _▷_, check}
 use Rattle.units.proofs.Verdicts.{passed, refused-first}
 use Rattle.sdc2d.specs.System.{System, system}
 use Rattle.bay_lists.specs.Lists.{Constraints, constraints}
+use Rattle.legal_at.specs.Legal.{isLegal}
 use Rattle.legal.specs.Sets.{setsOf, emptyVerdict}
-use Rattle.ledger_rows.specs.Blocks.{need}
-use Rattle.scan_tables.specs.Order.{scanSets}
 use Rattle.run_room.specs.Room.{roomVerdict}
-use Rattle.least_layout.specs.Run.{tableScan, systemScan, runNeed}
-use Rattle.sdc2d_thermo.specs.Steps.{Finished}
-use Rattle.sdc2d_thermo.proofs.Finishing.{stop, past}
-use Rattle.sdc2d_thermo.proofs.Grids.{asks, board, stock, tables-read, in-scan, own-room, own-filled, empty-is}
+use Rattle.least_layout.specs.Run.{systemScan, runNeed}
+use Rattle.sets_run.specs.Finished.{FinishedScan}
+use Rattle.sets_run.proofs.Finishing.{stop, past}
+use Rattle.sets_run.proofs.Grids.{asks, board, stock, tables-read, in-scan, own-room, own-filled, empty-is}
 use Rattle.sdc2d_thermo.proofs.run.run_grid.Statement.{statement}
 use Rattle.sdc2d_thermo.proofs.run.run_grid.Tie as tie
 
@@ -37,7 +36,7 @@ room s = roomVerdict (runNeed (asked s) (lists s)) (length (now (s .args .energi
 
 -- what the test for empty sets answers
 seven : (c : tie.After-grid-sets) → let s = c .before .before .before .before .before .before .before .before .before .before .before .before .before in c .grid-sets .result ≡ check (empty s)
-seven c = let s = c .before .before .before .before .before .before .before .before .before .before .before .before .before in empty-is (asked s) (lists s) (length (now (s .args .layout))) (s .pre .0) (s .pre .1) (c .grid-sets .ensures .1 .0)
+seven c = let s = c .before .before .before .before .before .before .before .before .before .before .before .before .before in empty-is (asked s) (lists s) (length (now (s .args .layout))) (s .pre .0) (s .pre .1) (isLegal (asked s) (lists s)) (c .grid-sets .ensures .1 .0)
 
 slice-aggregate-grid-sets : tie.Need-slice-aggregate-grid-sets
 slice-aggregate-grid-sets c = search needs
@@ -72,7 +71,7 @@ run-sets-requires c κs =
       tables-read (asked s) (lists s) lent (s .pre .0) (s .pre .1),
       (
         stock (asked s) (lists s) lent (s .pre .0) (s .pre .1),
-        (own-filled (asked s) (lists s) lent (s .pre .0) (s .pre .1) own (found .grid-sets .ensures .0) none, (board (asked s) (lists s) lent (s .pre .0) (s .pre .1), own-room (asked s) (lists s) lent (s .pre .0) (s .pre .1) own (found .grid-sets .ensures .0))),
+        (own-filled (asked s) (lists s) lent (s .pre .0) (s .pre .1) (isLegal (asked s) (lists s)) own (found .grid-sets .ensures .0) none, (board (asked s) (lists s) lent (s .pre .0) (s .pre .1), own-room (asked s) (lists s) lent (s .pre .0) (s .pre .1) (isLegal (asked s) (lists s)) own (found .grid-sets .ensures .0))),
       ),
     )
 
@@ -95,12 +94,11 @@ returns-2 c =
     let z = a .z in
     let lent = length (now (a .layout)) in
     let own = found .grid-sets .last .1 .1 .1 .1 .1 .1 .1 .1 .1 .0 in
+    let after = call .run-sets .last .1 .1 .1 .1 .1 .1 .1 in
     past (empty s) (room s) (systemScan (asked s) (lists s)) (z .rows) (z .cols) (z .kelvin) (passed (empty s) (seven found) (told .enum-told .given .1))
     (subst
-    (λ (l : List ℕ). Finished (roomVerdict (need (tableScan z (now (a .strand-glues)) (now (a .scaffold)) (now (a .delta-g)) (now (a .entropy)) (now (a .logs)) l) (z .rows * z .cols)) (length (now (a .energies))) (length (now (a .notes))))
-    (tableScan z (now (a .strand-glues)) (now (a .scaffold)) (now (a .delta-g)) (now (a .entropy)) (now (a .logs)) l) (z .rows) (z .cols) (z .kelvin) (call .run-sets .result)
-    (now (a .layout)) (call .run-sets .last .1 .1 .1 .1 .1 .1 .1 .0) (now (a .energies)) (call .run-sets .last .1 .1 .1 .1 .1 .1 .1 .1 .0) (now (a .notes)) (call .run-sets .last .1 .1 .1 .1 .1 .1 .1 .1 .1 .0))
-    (in-scan (asked s) (lists s) lent (s .pre .0) (s .pre .1) own (found .grid-sets .ensures .0)) (call .run-sets .ensures))
+    (λ (l : List ℕ). FinishedScan (asked s) l (call .run-sets .result) (now (a .layout)) (after .0) (now (a .energies)) (after .1 .0) (now (a .notes)) (after .1 .1 .0))
+    (in-scan (asked s) (lists s) lent (s .pre .0) (s .pre .1) (isLegal (asked s) (lists s)) own (found .grid-sets .ensures .0)) (call .run-sets .ensures))
 
 pub run-grid-spec : {M : Type 1} → statement M
 run-grid-spec =

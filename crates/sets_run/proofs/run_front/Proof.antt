@@ -1,14 +1,11 @@
--- `sdc2d_thermo::run::run_front` meets its contract. Assumes nothing.
-use Prim.Native.Nat.{ℕ, _*_, _<_, _≤_}
-use mathlib.Core.Path.{_≡_, sym, subst}
-use native.Mathlib.Nat.{mul-le-mul}
-use native.Mathlib.Omega.{arith}
-use lib.ListN.{length, take}
+-- `sets_run::run_front` meets its contract. Assumes nothing.
+use Prim.Native.Nat.{ℕ, _*_, _<_}
+use mathlib.Core.Path.{sym, subst}
 use lib.Seq.{length-take-le}
 use denote.Ref.{now}
 use borrow.Author.Needs.{needs}
-use Rattle.sdc2d_thermo.proofs.run.run_front.Statement.{statement}
-use Rattle.sdc2d_thermo.proofs.run.run_front.Tie as tie
+use Rattle.sets_run.proofs.run_front.Statement.{statement}
+use Rattle.sets_run.proofs.run_front.Tie as tie
 
 mul-bays : tie.Need-mul-bays
 mul-bays c = search needs

@@ -1,22 +1,20 @@
--- `sdc2d_thermo::run::run_sets` meets its contract: the sets stand in scan order at the front of their table. Assumes nothing.
-use Prim.Native.Nat.{ℕ, _*_, _≤_}
-use mathlib.Core.Path.{_≡_, sym, subst}
-use mathlib.Core.List.{List}
-use lib.ListN.{length, getD, take}
+-- `sets_run::run_sets` meets its contract: the sets stand in scan order at the front of their table. Assumes nothing.
+use Prim.Native.Nat.{ℕ, _*_}
+use mathlib.Core.Path.{sym, subst}
+use mathlib.Core.List.{List, []}
+use lib.ListN.{getD}
 use denote.Ref.{now}
 use borrow.Author.Needs.{needs}
-use Rattle.scan_order.specs.Scan.{window, bayAt}
+use Rattle.sdc2d.specs.System.{system}
+use Rattle.scan_order.specs.Scan.{bayAt, window}
 use Rattle.legal.proofs.Fronts.{front-fits}
 use Rattle.ledger_rows.specs.Scan.{Filled}
-use Rattle.ledger_rows.specs.Blocks.{need}
 use Rattle.ledger_rows.proofs.Lists.{length-tab}
 use Rattle.ledger_fill.specs.Handed.{setScan}
-use Rattle.run_room.specs.Room.{roomVerdict}
-use Rattle.least_layout.specs.Run.{tableScan}
-use Rattle.sdc2d_thermo.specs.Steps.{Finished}
 use Rattle.system_run.proofs.Boards.{few-bays}
-use Rattle.sdc2d_thermo.proofs.run.run_sets.Statement.{statement}
-use Rattle.sdc2d_thermo.proofs.run.run_sets.Tie as tie
+use Rattle.sets_run.specs.Finished.{FinishedScan}
+use Rattle.sets_run.proofs.run_sets.Statement.{statement}
+use Rattle.sets_run.proofs.run_sets.Tie as tie
 
 slice-aggregate-fill-scan : tie.Need-slice-aggregate-fill-scan
 slice-aggregate-fill-scan c = search needs
@@ -63,10 +61,10 @@ returns c =
     let s = filled .before .before .before .before .before .before .before .before .before .before .before in
     let a = s .args in
     let z = a .z in
+    let lent = system z (now (a .strand-glues)) (now (a .scaffold)) (now (a .delta-g)) (now (a .entropy)) (now (a .logs)) [] in
+    let after = call .run-front .last .1 .1 .1 .1 .1 .1 .1 in
     subst
-    (λ (l : List ℕ). Finished (roomVerdict (need (tableScan z (now (a .strand-glues)) (now (a .scaffold)) (now (a .delta-g)) (now (a .entropy)) (now (a .logs)) l) (z .rows * z .cols)) (length (now (a .energies))) (length (now (a .notes))))
-    (tableScan z (now (a .strand-glues)) (now (a .scaffold)) (now (a .delta-g)) (now (a .entropy)) (now (a .logs)) l) (z .rows) (z .cols) (z .kelvin) (call .run-front .result)
-    (now (a .layout)) (call .run-front .last .1 .1 .1 .1 .1 .1 .1 .0) (now (a .energies)) (call .run-front .last .1 .1 .1 .1 .1 .1 .1 .1 .0) (now (a .notes)) (call .run-front .last .1 .1 .1 .1 .1 .1 .1 .1 .1 .0))
+    (λ (l : List ℕ). FinishedScan lent l (call .run-front .result) (now (a .layout)) (after .0) (now (a .energies)) (after .1 .0) (now (a .notes)) (after .1 .1 .0))
     (filled .fill-scan .ensures) (call .run-front .ensures)
 
 pub run-sets-spec : {M : Type 1} → statement M

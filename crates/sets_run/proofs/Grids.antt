@@ -1,23 +1,22 @@
 -- What a system and constraints that passed 1 to 5 give the steps behind. Assumes nothing.
-use Prim.Native.Nat.{ℕ, _*_, _≤_, _<_}
+use Prim.Native.Nat.{ℕ, _*_, _≤_}
 use mathlib.Core.Path.{_≡_, refl, sym, _∙_, ap, subst}
-use mathlib.Core.Bool.{true}
+use mathlib.Core.Bool.{Bool, true}
 use mathlib.Core.List.{List}
 use native.Mathlib.Nat.{mul-le-mul}
 use native.Mathlib.Omega.{arith}
 use lib.ListN.{length, getD, take}
 use lib.Seq.{getD-take}
 use Rattle.units.specs.declared.Check.{Check}
-use Rattle.units.specs.Refusals.{Verdict, passes, check}
+use Rattle.units.specs.Refusals.{passes, check}
 use Rattle.bonds.specs.Readable.{Readable}
 use Rattle.sdc2d.specs.System.{System, systemVerdict}
-use Rattle.sdc2d.proofs.Fine.{Fine, fine}
+use Rattle.sdc2d.proofs.Fine.{fine}
 use Rattle.bay_lists.specs.Lists.{Constraints, offsetsShaped}
-use Rattle.legal_at.specs.Legal.{isLegal}
 use Rattle.legal_at.specs.OnGrid.{Grid}
 use Rattle.legal_at.proofs.Sound.{sound}
 use Rattle.scan_order.specs.Scan.{window, bayAt}
-use Rattle.legal.specs.Sets.{bays, setsTo, setsOf, shapeVerdict, emptyVerdict}
+use Rattle.legal.specs.Sets.{bays, setsTo, shapeVerdict, emptyVerdict}
 use Rattle.legal.proofs.Answered.{right}
 use Rattle.legal.proofs.Fronts.{front-fits, length-sets}
 use Rattle.scan_order.proofs.Scanned.{bay-inside}
@@ -25,10 +24,9 @@ use Rattle.ledger_rows.specs.Scan.{Filled}
 use Rattle.ledger_fill.specs.Handed.{setScan}
 use Rattle.scan_tables.specs.Order.{scanSets}
 use Rattle.run_tables.specs.Tables.{Stocked}
-use Rattle.least_layout.specs.Run.{systemScan}
 use Rattle.system_run.specs.Steps.{OnBoard}
 use Rattle.system_run.proofs.Ordered.{tab-same}
-use Rattle.least_layout.proofs.Passed.{filled}
+use Rattle.least_layout.proofs.Passed.{filled-by}
 
 module _ (s : System) (c : Constraints) (lent : ℕ) (p : systemVerdict s ≡ passes) (q : shapeVerdict (s .sizes) lent c ≡ passes) where
   abbrev rows : ℕ
@@ -58,21 +56,25 @@ module _ (s : System) (c : Constraints) (lent : ℕ) (p : systemVerdict s ≡ pa
   pub tables-read : Readable (s .sizes .strands) (s .sizes .glues) (s .strandGlues) (s .deltaG) (s .entropy)
   tables-read = sound s p .readable
 
-  -- the sets at the front of a table of their own
-  module _ (own : List ℕ) (e : take (length (s .scaffold)) own ≡ setsTo (isLegal s c) (length (s .scaffold))) where
-    own-sets : take (rows * cols) own ≡ setsOf s c
-    own-sets = subst (λ (n : ℕ). take n own ≡ setsTo (isLegal s c) n) (fine s p .shape .scaffold) e
+  module _ (may : ℕ → ℕ → Bool) where
+    abbrev sets : List ℕ
+    sets = setsTo may (rows * cols)
 
-    pub in-scan : scanSets rows cols own ≡ scanSets rows cols (setsOf s c)
-    in-scan =
-        tab-same (λ (k : ℕ). getD own (bayAt rows cols k) 0) (λ (k : ℕ). getD (setsOf s c) (bayAt rows cols k) 0) (rows * cols)
-        (λ k h. sym (getD-take (rows * cols) own (bayAt rows cols k) 0 (bay-inside rows cols k h)) ∙ ap (λ (l : List ℕ). getD l (bayAt rows cols k) 0) own-sets)
+    -- the sets at the front of a table of their own
+    module _ (own : List ℕ) (e : take (length (s .scaffold)) own ≡ setsTo may (length (s .scaffold))) where
+      own-sets : take (rows * cols) own ≡ sets
+      own-sets = subst (λ (n : ℕ). take n own ≡ setsTo may n) (fine s p .shape .scaffold) e
 
-    pub own-room : rows * cols ≤ length own
-    own-room = front-fits (rows * cols) own own-sets (length-sets (isLegal s c) (rows * cols))
+      pub in-scan : scanSets rows cols own ≡ scanSets rows cols sets
+      in-scan =
+          tab-same (λ (k : ℕ). getD own (bayAt rows cols k) 0) (λ (k : ℕ). getD sets (bayAt rows cols k) 0) (rows * cols)
+          (λ k h. sym (getD-take (rows * cols) own (bayAt rows cols k) 0 (bay-inside rows cols k h)) ∙ ap (λ (l : List ℕ). getD l (bayAt rows cols k) 0) own-sets)
 
-    pub own-filled : emptyVerdict rows cols (setsOf s c) ≡ passes → Filled (setScan (window rows cols) (scanSets rows cols own)) (rows * cols)
-    own-filled none = subst (λ (l : List ℕ). Filled (setScan (window rows cols) l) (rows * cols)) (sym in-scan) (filled s c none)
+      pub own-room : rows * cols ≤ length own
+      own-room = front-fits (rows * cols) own own-sets (length-sets may (rows * cols))
 
-  pub empty-is : {x : Check} → x ≡ check (emptyVerdict rows cols (setsTo (isLegal s c) (length (s .scaffold)))) → x ≡ check (emptyVerdict rows cols (setsOf s c))
-  empty-is e = e ∙ ap (λ (n : ℕ). check (emptyVerdict rows cols (setsTo (isLegal s c) n))) (fine s p .shape .scaffold)
+      pub own-filled : emptyVerdict rows cols sets ≡ passes → Filled (setScan (window rows cols) (scanSets rows cols own)) (rows * cols)
+      own-filled none = subst (λ (l : List ℕ). Filled (setScan (window rows cols) l) (rows * cols)) (sym in-scan) (filled-by s may none)
+
+    pub empty-is : {x : Check} → x ≡ check (emptyVerdict rows cols (setsTo may (length (s .scaffold)))) → x ≡ check (emptyVerdict rows cols sets)
+    empty-is e = e ∙ ap (λ (n : ℕ). check (emptyVerdict rows cols (setsTo may n))) (fine s p .shape .scaffold)

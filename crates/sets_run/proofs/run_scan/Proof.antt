@@ -1,4 +1,4 @@
--- `sdc2d_thermo::run::run_scan` meets its contract: 8 or 9, or the run and its answer. Assumes nothing.
+-- `sets_run::run_scan` meets its contract: 8 or 9, or the run and its answer. Assumes nothing.
 use Prim.Native.Nat.{ℕ, _*_, _<_}
 use mathlib.Core.Path.{_≡_, sym, _∙_, ap, subst}
 use mathlib.Core.Bool.{not}
@@ -14,9 +14,9 @@ use Rattle.ledger_fill.specs.Handed.{runScan, capped}
 use Rattle.scan_order.specs.Scan.{byRows, window}
 use Rattle.run_tables.specs.Tables.{bondTable, siteTable}
 use Rattle.run_room.specs.Room.{roomVerdict}
-use Rattle.sdc2d_thermo.proofs.Finishing.{stop, finish, need-of, room-by-cap, some-side, roomy}
-use Rattle.sdc2d_thermo.proofs.run.run_scan.Statement.{statement}
-use Rattle.sdc2d_thermo.proofs.run.run_scan.Tie as tie
+use Rattle.sets_run.proofs.Finishing.{stop, finish, need-of, room-by-cap, some-side, roomy}
+use Rattle.sets_run.proofs.run_scan.Statement.{statement}
+use Rattle.sets_run.proofs.run_scan.Tie as tie
 
 -- the tables and the scan of what was lent
 abbrev sites : tie.Start → List Float

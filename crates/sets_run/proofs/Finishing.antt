@@ -4,11 +4,10 @@ use mathlib.Core.Path.{_≡_, refl, sym, _∙_, ap, subst}
 use mathlib.Core.Bool.{Bool, true, false, not, cond, _||_, true≢false}
 use mathlib.Core.List.{List, [], _∷_, _++_}
 use native.Mathlib.Nat.{zero-add}
-use native.Mathlib.Omega.{arith}
 use lib.Dec.{leb, ltb}
 use lib.Ieee.{Float, inf, lt, binary64, ofBits}
 use lib.ListN.{length, take, drop, replicate}
-use borrow.Author.Tests.{leb-true, leb-false, ltb-false, lt-ltb}
+use borrow.Author.Tests.{leb-false, ltb-false, lt-ltb}
 use Rattle.units.specs.declared.Refusal.{Refusal}
 use Rattle.units.specs.declared.Check.{Check}
 use Rattle.units.specs.declared.Check.the-variants.{Passed, Refused}
@@ -18,7 +17,6 @@ use Rattle.units.specs.Answers.{energyAnswer}
 use Rattle.units.specs.Refusals.{Verdict, passes, refuses, refuseIf, _▷_, check, ifPasses}
 use Rattle.units.proofs.Verdicts.{passed, refused-keeps, no-fault, first-passes, rest-passes}
 use Rattle.units.proofs.Answers.{refused, an-energy}
-use Rattle.beta_energies.specs.Energies.{noEnergy}
 use Rattle.beta_energies.proofs.Laws.{no-energy-is}
 use Rattle.state_energy.specs.StateG.{energyVerdict, inKcal}
 use Rattle.ledger_rows.specs.Scan.{Scan, Filled}
@@ -30,9 +28,8 @@ use Rattle.scan_order.specs.Scan.{window}
 use Rattle.bay_block.specs.Block.{over}
 use Rattle.run_room.specs.Room.{roomVerdict}
 use Rattle.least_layout.specs.Run.{rowByRow}
-use Rattle.sdc2d_thermo.specs.Run.{front, tableAfter}
 use Rattle.system_run.specs.Steps.{OnBoard, Roomy, Ran}
-use Rattle.sdc2d_thermo.specs.Steps.{Finished}
+use Rattle.sets_run.specs.Finished.{front, Finished}
 
 -- ---- refused before anything is written
 refused-lays : {A : Type 0} {x : Check} {r : Refusal} (v u : Verdict) (new old : A) → x ≡ check v → x ≡ Refused r → old ≡ ifPasses (v ▷ u) new old
