@@ -8,5 +8,6 @@ pub mod Numbers
 pub mod Offsets
 pub mod RoundTrip
 pub mod FromSheetToSet
+pub mod SameText
 pub mod Quoting
 pub mod FirstFault
