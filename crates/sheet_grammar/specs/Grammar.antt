@@ -1,6 +1,6 @@
 -- The grammar of constraint sheets: which texts are sheets of so many rows and columns, what each field's content is, quotes taken
 -- off, and which list it stands for. Assumes nothing.
-use Prim.Native.Nat.{ℕ, zero, suc}
+use Prim.Native.Nat.{ℕ, suc}
 use mathlib.Core.Path.{_≡_}
 use mathlib.Core.Bool.{true}
 use mathlib.Core.List.{List, [], _∷_, _++_}
