@@ -1,281 +1,450 @@
--- The place that a refusal of a sheet names is the first at which a field is bad, missing or surplus, and the other way round. Assumes nothing.
-use Prim.Native.Nat.{ℕ, zero, suc, _+_, _-_, _*_, _≤_, _<_}
-use mathlib.Core.Path.{_≡_, refl, sym, _∙_, ap, subst, subst₂}
-use mathlib.Core.Bool.{Bool, true, false, cond}
-use mathlib.Core.List.{List, [], _∷_}
-use native.Mathlib.Nat.{zero-mul, suc-mul, suc-add, zero-add, add-zero}
-use native.Mathlib.Numerals.{add-one}
+-- The place that a refusal of a sheet names is the first at which a field is bad, missing or surplus in the grammar's words, and the other way
+-- round. Assumes nothing.
+use Prim.Native.Nat.{ℕ, zero, suc, _+_, _-_, _*_, _≤_}
+use mathlib.Core.Path.{_≡_, refl, sym, _∙_, ap, ap₂, subst, subst₂}
+use mathlib.Core.Bool.{Bool, true, false, cond, not, _&&_, true≢false}
+use mathlib.Core.List.{List, [], _∷_, _++_, append-assoc, append-nil}
+use native.Mathlib.Nat.{zero-add}
 use native.Mathlib.Omega.{arith}
-use lib.Dec.{eqb, ltb}
-use lib.ListN.{length}
-use borrow.Author.Tests.{ltb-true, ltb-false, lt-ltb, le-ltb, eqb-true, eqb-false, eq-eqb, ne-eqb}
-use Rattle.units.specs.Refusals.{refuses, refuseIf}
+use lib.Dec.{eqb, ltb, leb}
+use lib.ListN.{length, length-append}
+use borrow.Author.Tests.{ltb-true, ltb-false, leb-true, lt-ltb, eqb-true, eqb-false, ne-eqb}
+use Rattle.entries.proofs.Same.{both}
+use Rattle.units.specs.Refusals.{Verdict, passes, refuses, refuseIf, _▷_, numberIn}
 use Rattle.sheet_fields.specs.Fields.{field, after}
 use Rattle.sheet_fields.specs.Runs.{past, goesOn}
+use Rattle.number_lists.specs.NumberLists.{isList}
 use Rattle.sheet_cells.specs.Cells.{isCell, rowFault, place, sheetFault, sheetVerdict}
 use Rattle.sheet_cells.specs.declared.Place.{Place}
-use Rattle.sheet_grammar.specs.FirstFault.{Right, WrongField, bad, missing, surplus, FirstWrong, RightRecord, WrongRecord, no-record, surplus-record, in-record, FirstFault}
+use Rattle.sheet.specs.Read.{isSide, tileCount, readVerdict}
+use Rattle.sheet_grammar.specs.Grammar.{FieldText, RecordText, last, comma, LineEnd, Separator, at-end, at-comma, at-line, SheetText, none, line, open-ended}
+use Rattle.sheet_grammar.specs.FirstFault.{FieldHere, Fields, no-field, one-field, Lines, no-line, one-line, WrongRecord, bad-field, missing-field, surplus-field, WrongSheet, in-record, missing-record, surplus-record, FirstFault}
+use Rattle.sheet_grammar.proofs.OneField.{Begins, field-read, cell-text, cell-read}
+use Rattle.sheet_grammar.proofs.Accepted.{row-text, some-field, some-byte, Starts, record-read, complete}
+use Rattle.sheet_grammar.proofs.Beginnings.{right-before}
 
--- ---- one field or some fields further
+-- ---- one cell of a record
 
-past-add : (a b : ℕ) (t : List ℕ) → past (a + b) t ≡ past b (past a t)
-unfolding past
-past-add zero b t = rw (zero-add b)
-past-add (suc a) b t = rw (suc-add a b) (past-add a b (after t))
+-- a field of the grammar that is followed as it should be leaves the rest of its record
+one-cell : {t c tail : List ℕ} {more : Bool} (column left : ℕ) → isList c ≡ true → Begins t more c tail → cond more (ltb 0 left) (eqb left 0) ≡ true
+    → rowFault column (suc left) t ≡ rowFault (column + 1) left tail
+unfolding rowFault isCell goesOn
+one-cell column left l b g = rw (b .sound, b .has, l, b .goes-on, g, b .leaves)
 
-past-one : (j : ℕ) (t : List ℕ) → past (j + 1) t ≡ after (past j t)
-unfolding past
-past-one j t = past-add j 1 t
+-- and one that is not is told as the next
+last-cell : {t c tail : List ℕ} {more : Bool} (column left : ℕ) → isList c ≡ true → Begins t more c tail → cond more (ltb 0 left) (eqb left 0) ≡ false
+    → rowFault column (suc left) t ≡ column + 1
+unfolding rowFault isCell goesOn
+last-cell column left l b g = rw (b .sound, b .has, l, b .goes-on, g)
 
-past-row : (k columns : ℕ) (t : List ℕ) → past ((k + 1) * columns) t ≡ past columns (past (k * columns) t)
-past-row k columns t = ap (λ (n : ℕ). past (n * columns) t) (add-one k) ∙ ap (λ (n : ℕ). past n t) (suc-mul k columns) ∙ past-add (k * columns) columns t
+-- a cell is a field of the grammar, and the other way round
+cell-here : (t : List ℕ) → isCell t ≡ true → FieldHere t
+cell-here t e =
+    let c = cell-text t e in
+    record { text = c .text; content = _; list = _; more = _; sep = c .sep; tail = _; is-field = c .is-field; ends = c .ends; all = c .all }
 
-past-none : (columns : ℕ) (t : List ℕ) → past (0 * columns) t ≡ t
-unfolding past
-past-none columns t = rw (zero-mul columns)
+here-cell : {t : List ℕ} → FieldHere t → isCell t ≡ true
+unfolding isCell
+here-cell h =
+    let b = field-read (h .is-field) (h .ends) in
+    rw (h .all, b .sound, b .has) (cell-read (h .is-field) .0)
 
--- ---- what follows a field
-
-goes-on-is : (left : ℕ) (t : List ℕ) → goesOn left t ≡ true → field t .more ≡ ltb 0 left
-unfolding goesOn
-goes-on-is left t e = go (field t .more) e
+no-cell : (t : List ℕ) → (FieldHere t → ⊥) → isCell t ≡ false
+no-cell t bad = go (isCell t) refl
   where
-    go : (m : Bool) → cond m (ltb 0 left) (eqb left 0) ≡ true → m ≡ ltb 0 left
-    go true f = sym f
-    go false f = let z = eqb-true left 0 f in sym (le-ltb 0 left (omega arith))
+    go : (b : Bool) → isCell t ≡ b → isCell t ≡ false
+    go true e = absurd (bad (cell-here t e))
+    go false e = e
 
-goes-on-if : (left : ℕ) (t : List ℕ) → field t .more ≡ ltb 0 left → goesOn left t ≡ true
-unfolding goesOn
-goes-on-if left t e = rw e (go (ltb 0 left) refl)
-  where
-    go : (m : Bool) → ltb 0 left ≡ m → cond m m (eqb left 0) ≡ true
-    go true f = refl
-    go false f = let z = ltb-false 0 left f in eq-eqb left 0 (omega arith)
+-- ---- what is wrong is told
 
--- fields are left exactly where the next one's number is below the columns
-left-is : (columns j left : ℕ) → j + suc left ≡ columns → ltb 0 left ≡ ltb (j + 1) columns
-left-is columns j left e = go (ltb 0 left) refl
-  where
-    go : (m : Bool) → ltb 0 left ≡ m → m ≡ ltb (j + 1) columns
-    go true f = let some = ltb-true 0 left f in sym (lt-ltb (j + 1) columns (omega arith))
-    go false f = let none = ltb-false 0 left f in sym (le-ltb (j + 1) columns (omega arith))
+-- past fields with commas
+past-fields : {k : ℕ} {b : List ℕ} → Fields k b → (column left : ℕ) (t : List ℕ) → rowFault column (suc left + k) (b ++ t) ≡ rowFault (column + k) (suc left) t
+past-fields no-field column left t =
+    let all : suc left + 0 ≡ suc left = omega arith in
+    let same : column ≡ column + 0 = omega arith in
+    ap₂ (λ (n at : ℕ). rowFault at n t) all same
+past-fields (one-field {t = f} {u = u} {k = k} x fs) column left t =
+    let up : column + 1 + k ≡ column + suc k = omega arith in
+    let more : suc left + suc k ≡ suc (suc left + k) = omega arith in
+    ap₂ (rowFault column) more (append-assoc f (44 ∷ u) t)
+    ∙ one-cell column (suc left + k) (cell-read x .0) (field-read x (at-comma {u = u ++ t})) (lt-ltb 0 (suc left + k) (omega arith))
+    ∙ past-fields fs (column + 1) left t ∙ ap (λ (n : ℕ). rowFault n (suc left) t) up
 
--- ---- the fields of a record
+-- behind a record that is not followed as it should be the next field is told
+record-told : {k : ℕ} {r : List ℕ} {cs ls : List (List ℕ)} → RecordText k r cs ls → {more : Bool} {sep tail : List ℕ} → Separator more sep tail → (column left : ℕ)
+    → cond more (ltb 0 left) (eqb left 0) ≡ false → rowFault column (left + k) (r ++ (sep ++ tail)) ≡ column + k
+record-told (last {t = f} x) {sep = sep} {tail = tail} s column left g =
+    let more : left + 1 ≡ suc left = omega arith in
+    ap (λ (n : ℕ). rowFault column n (f ++ (sep ++ tail))) more ∙ last-cell column left (cell-read x .0) (field-read x s) g
+record-told (comma {t = f} {k = k} {u = u} x r) {sep = sep} {tail = tail} s column left g =
+    let some = some-field r in
+    let up : column + 1 + k ≡ column + suc k = omega arith in
+    let more : left + suc k ≡ suc (left + k) = omega arith in
+    ap₂ (rowFault column) more (append-assoc f (44 ∷ u) (sep ++ tail))
+    ∙ one-cell column (left + k) (cell-read x .0) (field-read x (at-comma {u = u ++ (sep ++ tail)})) (lt-ltb 0 (left + k) (omega arith))
+    ∙ record-told r s (column + 1) left g ∙ up
 
-module _ (columns : ℕ) (t : List ℕ) where
-  -- the fault of a record from field j on
-  abbrev faultFrom : (j left : ℕ) → ℕ
-  faultFrom j left = rowFault (j + 1) left (past j t)
+number-told : {columns number : ℕ} {b t : List ℕ} → WrongRecord columns b t number → rowFault 1 columns (b ++ t) ≡ number
+unfolding rowFault
+number-told {columns = columns} (bad-field {k = k} {before = b} {rest = t} fs h bad) =
+    let left = columns - suc k in
+    let all : suc left + k ≡ columns = omega arith in
+    ap (λ (n : ℕ). rowFault 1 n (b ++ t)) (sym all) ∙ past-fields fs 1 left t ∙ rw (no-cell t bad) (omega arith)
+number-told {columns = columns} (missing-field {k = k} {before = b} {sep = sep} {tail = tail} r h s) =
+    let left = columns - k in
+    let all : left + k ≡ columns = omega arith in
+    ap (λ (n : ℕ). rowFault 1 n (b ++ (sep ++ tail))) (sym all) ∙ record-told r s 1 left (ne-eqb left 0 (λ (z : left ≡ 0). omega arith)) ∙ omega arith
+number-told {columns = columns} (surplus-field {before = b} {tail = tail} r) =
+    ap (λ (n : ℕ). rowFault 1 n (b ++ 44 ∷ tail)) (sym (zero-add columns)) ∙ record-told r (at-comma {u = tail}) 1 0 refl ∙ omega arith
 
-  right-field : (j left : ℕ) → j + suc left ≡ columns → isCell (past j t) ≡ true → goesOn left (past j t) ≡ true → Right columns t j
-  right-field j left e c g = record { is-cell = c; followed = goes-on-is left (past j t) g ∙ left-is columns j left e }
+some-number : {columns number : ℕ} {b t : List ℕ} → WrongRecord columns b t number → 1 ≤ number
+some-number (bad-field fs h bad) = omega arith
+some-number (missing-field r h s) = omega arith
+some-number (surplus-field r) = omega arith
 
-  -- past a field that is right
-  right-goes-on : (j left : ℕ) → j + suc left ≡ columns → Right columns t j → faultFrom j (suc left) ≡ faultFrom (j + 1) left
+-- past a record that has bytes and no fault
+one-row-on : {columns : ℕ} {t tail : List ℕ} {cs ls : List (List ℕ)} (at left : ℕ) → 1 ≤ length t → Starts columns t cs ls tail
+    → sheetFault columns at (suc left) t ≡ sheetFault columns (at + 1) left tail
+unfolding sheetFault
+one-row-on {t = t} at left some s = rw (ne-eqb (length t) 0 (λ (z : length t ≡ 0). omega arith), s .no-fault 1, s .leaves)
+
+-- past a record with its line ending
+one-line-on : {columns : ℕ} {r e : List ℕ} {cs ls : List (List ℕ)} (at left : ℕ) (u : List ℕ) → RecordText columns r cs ls → LineEnd e
+    → sheetFault columns at (suc left) (r ++ (e ++ u)) ≡ sheetFault columns (at + 1) left u
+one-line-on {r = r} {e = e} at left u x l =
+    let bytes = some-byte l in
+    one-row-on at left (omega (arith, length-append r (e ++ u), length-append e u)) (record-read x (at-line {u = u} l))
+
+past-lines : {columns k : ℕ} {a : List ℕ} → Lines columns k a → (at left : ℕ) (t : List ℕ) → sheetFault columns at (left + k) (a ++ t) ≡ sheetFault columns (at + k) left t
+past-lines {columns = columns} no-line at left t =
+    let all : left + 0 ≡ left = omega arith in
+    let same : at ≡ at + 0 = omega arith in
+    ap₂ (λ (n k : ℕ). sheetFault columns k n t) all same
+past-lines {columns = columns} (one-line {t = r} {e = e} {u = u} {k = k} x l ls) at left t =
+    let up : at + 1 + k ≡ at + suc k = omega arith in
+    let more : left + suc k ≡ suc (left + k) = omega arith in
+    ap₂ (sheetFault columns at) more (append-assoc r (e ++ u) t ∙ ap (λ (v : List ℕ). r ++ v) (append-assoc e u t))
+    ∙ one-line-on at (left + k) (u ++ t) x l ∙ past-lines ls (at + 1) left t ∙ ap (λ (n : ℕ). sheetFault columns n left t) up
+
+-- a sheet of fewer rows is told as the first field behind it
+short-told : {columns k : ℕ} {t : List ℕ} {cs ls : List (List ℕ)} → SheetText columns k t cs ls → (at left : ℕ) → sheetFault columns at (suc left + k) t ≡ place (at + k) 1
+unfolding sheetFault
+short-told {columns = columns} none at left =
+    let all : suc left + 0 ≡ suc left = omega arith in
+    let same : at ≡ at + 0 = omega arith in
+    ap (λ (n : ℕ). sheetFault columns at n []) all ∙ ap (λ (n : ℕ). place n 1) same
+short-told {columns = columns} (line {t = r} {e = e} {k = k} {u = u} x l s) at left =
+    let up : at + 1 + k ≡ at + suc k = omega arith in
+    let more : suc left + suc k ≡ suc (suc left + k) = omega arith in
+    ap₂ (sheetFault columns at) more (append-assoc r e u) ∙ one-line-on at (suc left + k) u x l ∙ short-told s (at + 1) left ∙ ap (λ (n : ℕ). place n 1) up
+short-told {columns = columns} (open-ended {b = b} {t = t} {cs = cs} {ls = ls} x) at left =
+    let more : suc left + 1 ≡ suc (suc left) = omega arith in
+    ap (λ (n : ℕ). sheetFault columns at n (b ∷ t)) more ∙ one-row-on at (suc left) (omega arith) (subst (λ (v : List ℕ). Starts columns v cs ls []) (append-nil (b ∷ t)) (record-read x at-end))
+
+-- the place that is wrong is told
+pub place-told : {columns rows l number : ℕ} {before rest : List ℕ} → WrongSheet columns rows before rest l number → sheetFault columns 1 rows (before ++ rest) ≡ place l number
+unfolding sheetFault
+place-told {columns = columns} {rows = rows} (in-record {k = k} {number = number} {a = a} {b = b} {rest = rest} ls h some w) =
+    let left = rows - suc k in
+    let all : suc left + k ≡ rows = omega arith in
+    let is = number-told w in
+    let not-none = some-number w in
+    let first : 1 + k ≡ suc k = omega arith in
+    ap (sheetFault columns 1 rows) (append-assoc a b rest) ∙ ap (λ (n : ℕ). sheetFault columns 1 n (a ++ (b ++ rest))) (sym all) ∙ past-lines ls 1 (suc left) (b ++ rest)
+    ∙ rw (ne-eqb (length (b ++ rest)) 0 (λ (z : length (b ++ rest) ≡ 0). omega arith), is, ne-eqb number 0 (λ (z : number ≡ 0). omega arith), first)
+place-told {columns = columns} {rows = rows} (missing-record {k = k} {before = t} s h) =
+    let left = rows - suc k in
+    let all : suc left + k ≡ rows = omega arith in
+    let first : 1 + k ≡ suc k = omega arith in
+    ap (sheetFault columns 1 rows) (append-nil t) ∙ ap (λ (n : ℕ). sheetFault columns 1 n t) (sym all) ∙ short-told s 1 left ∙ ap (λ (n : ℕ). place n 1) first
+place-told {columns = columns} {rows = rows} (surplus-record {b = b} {before = a} {tail = u} ls) =
+    let first : 1 + rows ≡ suc rows = omega arith in
+    ap (λ (n : ℕ). sheetFault columns 1 n (a ++ b ∷ u)) (sym (zero-add rows)) ∙ past-lines ls 1 0 (b ∷ u)
+    ∙ rw (ne-eqb (suc (length u)) 0 (λ (z : suc (length u) ≡ 0). omega arith), first)
+
+-- ---- what is told is wrong
+
+-- one field further
+behind-a-field : {columns number : ℕ} {f c ns b rest : List ℕ} → FieldText f c ns → WrongRecord columns b rest number → WrongRecord (suc columns) (f ++ 44 ∷ b) rest (suc number)
+behind-a-field x (bad-field fs h bad) = bad-field (one-field x fs) (omega arith) bad
+behind-a-field x (missing-field r h s) = missing-field (comma x r) (omega arith) s
+behind-a-field x (surplus-field r) = surplus-field (comma x r)
+
+-- a record of which a field is told has that field wrong
+record RowWrong (left column : ℕ) (t : List ℕ) : Type 0 where
+  before : List ℕ
+  rest : List ℕ
+  n : ℕ
+  all : t ≡ before ++ rest
+  wrong : WrongRecord left before rest (suc n)
+  told : rowFault column left t ≡ column + n
+
+module _ (column left : ℕ) (t : List ℕ) where
+  told-here : isCell t ≡ false → rowFault column (suc left) t ≡ column + 0
   unfolding rowFault
-  right-goes-on j left e r =
-      let g : goesOn left (past j t) ≡ true = goes-on-if left (past j t) (r .followed ∙ sym (left-is columns j left e)) in
-      rw (r .is-cell, g, past-one j t)
+  told-here e = rw e (omega arith)
 
-  -- past all fields that are right
-  reaches : (j left : ℕ) → j + left ≡ columns → ((i : ℕ) → i < j → Right columns t i) → rowFault 1 columns t ≡ faultFrom j left
-  unfolding past
-  reaches zero left e r = ap (λ (n : ℕ). rowFault 1 n t) (sym e ∙ zero-add left)
-  reaches (suc j) left e r =
-      let up : j + suc left ≡ columns = omega arith in
-      reaches j (suc left) up (λ i h. r i (omega (arith, h))) ∙ right-goes-on j left up (r j (omega arith)) ∙ ap (λ (n : ℕ). faultFrom n left) (add-one j)
+  told-next : isCell t ≡ true → goesOn left t ≡ false → rowFault column (suc left) t ≡ column + 1
+  unfolding rowFault
+  told-next e g = rw (e, g)
 
-  right-more : (j : ℕ) → ((i : ℕ) → i < j → Right columns t i) → Right columns t j → (i : ℕ) → i < j + 1 → Right columns t i
-  right-more j before here i h = go (ltb i j) refl
-    where
-      go : (s : Bool) → ltb i j ≡ s → Right columns t i
-      go true e = before i (ltb-true i j e)
-      go false e = let last = ltb-false i j e in subst (Right columns t) (let same : j ≡ i = omega arith in same) here
+  told-later : isCell t ≡ true → goesOn left t ≡ true → rowFault column (suc left) t ≡ rowFault (column + 1) left (after t)
+  unfolding rowFault
+  told-later e g = rw (e, g)
 
-  -- a field that is not followed as it should be
-  not-followed : (j left : ℕ) → j + suc left ≡ columns → isCell (past j t) ≡ true → goesOn left (past j t) ≡ false → WrongField columns t j (j + 2)
+  -- what follows a field, by its separator
+  by-more : {more answer : Bool} → more ≡ field t .more → goesOn left t ≡ answer → cond more (ltb 0 left) (eqb left 0) ≡ answer
   unfolding goesOn
-  not-followed j left e c g = go (field (past j t) .more) refl g
+  by-more {answer = answer} m g = subst (λ (b : Bool). cond b (ltb 0 left) (eqb left 0) ≡ answer) (sym m) g
+
+  bad-here : isCell t ≡ false → RowWrong (suc left) column t
+  bad-here e =
+      record { before = []; rest = t; n = 0; all = refl; wrong = bad-field no-field (omega arith) (λ (f : FieldHere t). true≢false (sym (here-cell f) ∙ e)); told = told-here e }
+
+  not-followed : isCell t ≡ true → goesOn left t ≡ false → RowWrong (suc left) column t
+  not-followed e g = let c = cell-text t e in by (c .ends) refl (c .is-field) (c .all)
     where
-      go : (m : Bool) → field (past j t) .more ≡ m → cond m (ltb 0 left) (eqb left 0) ≡ false → WrongField columns t j (j + 2)
-      go true f h = let none = ltb-false 0 left h in surplus (omega arith) c f
-      go false f h = let some = eqb-false left 0 h in missing (omega arith) c f
+      missing-next : {f x ns sep tail : List ℕ} → FieldText f x ns → Separator false sep tail → eqb left 0 ≡ false → t ≡ f ++ (sep ++ tail) → RowWrong (suc left) column t
+      missing-next {f = f} {sep = sep} {tail = tail} x s some all =
+          let h = eqb-false left 0 some in
+          record { before = f; rest = sep ++ tail; n = 1; all = all; wrong = missing-field (last x) (omega arith) s; told = told-next e g }
 
-  -- the number told of a record is that of its first wrong field
-  first-from : (left j : ℕ) → j + left ≡ columns → ((i : ℕ) → i < j → Right columns t i) → 1 ≤ faultFrom j left → FirstWrong columns t (faultFrom j left)
+      by : {more : Bool} {f x ns sep tail : List ℕ} → Separator more sep tail → more ≡ field t .more → FieldText f x ns → t ≡ f ++ (sep ++ tail) → RowWrong (suc left) column t
+      by at-end m x all = missing-next x at-end (by-more m g) all
+      by {f = f} (at-comma {u = u}) m x all =
+          let h = ltb-false 0 left (by-more m g) in
+          let only : 1 ≡ suc left = omega arith in
+          record { before = f; rest = 44 ∷ u; n = 1; all = all; wrong = subst (λ (n : ℕ). WrongRecord n f (44 ∷ u) 2) only (surplus-field (last x)); told = told-next e g }
+      by (at-line l) m x all = missing-next x (at-line l) (by-more m g) all
+
+  followed : isCell t ≡ true → goesOn left t ≡ true → 1 ≤ rowFault (column + 1) left (after t) → RowWrong left (column + 1) (after t) → RowWrong (suc left) column t
   unfolding rowFault
-  first-from zero j e before h = absurd (omega arith)
-  first-from (suc left) j e before h =
-      go (isCell (past j t)) refl (goesOn left (past j t)) refl h
-      (λ r more. first-from left (j + 1) (omega (arith, e)) (right-more j before r) more)
+  followed e g h w = let c = cell-text t e in by (c .ends) refl refl (c .is-field) (c .all)
     where
-      go : (p : Bool) → isCell (past j t) ≡ p → (q : Bool) → goesOn left (past j t) ≡ q
-          → 1 ≤ cond p (cond q (rowFault (j + 1 + 1) left (after (past j t))) (j + 1 + 1)) (j + 1)
-          → (Right columns t j → 1 ≤ faultFrom (j + 1) left → FirstWrong columns t (faultFrom (j + 1) left))
-          → FirstWrong columns t (cond p (cond q (rowFault (j + 1 + 1) left (after (past j t))) (j + 1 + 1)) (j + 1))
-      go true c true g h later = rw (← past-one j t) (later (right-field j left e c g) (rw (past-one j t) h))
-      go true c false g h later =
-          let two : j + 1 + 1 ≡ j + 2 = omega arith in
-          rw two (record { place = j; right-before = before; wrong-here = not-followed j left e c g })
-      go false c q g h later = record { place = j; right-before = before; wrong-here = bad (omega arith) c }
+      none-left : eqb left 0 ≡ true → RowWrong (suc left) column t
+      none-left z = let none : 1 ≤ rowFault (column + 1) 0 (after t) = subst (λ (n : ℕ). 1 ≤ rowFault (column + 1) n (after t)) (eqb-true left 0 z) h in absurd (omega arith)
 
-  -- where none is told, all fields are right
-  all-right : (left j : ℕ) → j + left ≡ columns → ((i : ℕ) → i < j → Right columns t i) → faultFrom j left ≡ 0 → (i : ℕ) → i < columns → Right columns t i
-  unfolding rowFault
-  all-right zero j e before h i k = before i (omega arith)
-  all-right (suc left) j e before h i k =
-      go (isCell (past j t)) refl (goesOn left (past j t)) refl h
-      (λ r more. all-right left (j + 1) (omega (arith, e)) (right-more j before r) more i k)
-    where
-      go : (p : Bool) → isCell (past j t) ≡ p → (q : Bool) → goesOn left (past j t) ≡ q
-          → cond p (cond q (rowFault (j + 1 + 1) left (after (past j t))) (j + 1 + 1)) (j + 1) ≡ 0
-          → (Right columns t j → faultFrom (j + 1) left ≡ 0 → Right columns t i) → Right columns t i
-      go true c true g h later = later (right-field j left e c g) (rw (past-one j t) h)
-      go true c false g h later = absurd (omega arith)
-      go false c q g h later = absurd (omega arith)
+      by : {more : Bool} {f x ns sep tail : List ℕ} → Separator more sep tail → more ≡ field t .more → tail ≡ after t → FieldText f x ns → t ≡ f ++ (sep ++ tail) → RowWrong (suc left) column t
+      by at-end m p x all = none-left (by-more m g)
+      by {f = f} at-comma m p x all =
+          let up : column + 1 + w .n ≡ column + suc (w .n) = omega arith in
+          record {
+            before = f ++ 44 ∷ w .before;
+            rest = w .rest;
+            n = suc (w .n);
+            all = all ∙ ap (λ (v : List ℕ). f ++ 44 ∷ v) (p ∙ w .all) ∙ sym (append-assoc f (44 ∷ w .before) (w .rest));
+            wrong = behind-a-field x (w .wrong);
+            told = told-later e g ∙ w .told ∙ up;
+          }
+      by (at-line l) m p x all = none-left (by-more m g)
 
-  -- and the other way round: the first wrong field is told
-  wrong-told : (j number left : ℕ) → j + suc left ≡ columns → WrongField columns t j number → faultFrom j (suc left) ≡ number
-  unfolding rowFault goesOn
-  wrong-told j number left e (bad h c) = rw c
-  wrong-told j number left e (missing h c m) = rw (c, m, ne-eqb left 0 (λ (z : left ≡ 0). omega arith)) (let two : j + 1 + 1 ≡ j + 2 = omega arith in two)
-  wrong-told j number left e (surplus h c m) = rw (c, m, le-ltb 0 left (omega arith)) (let two : j + 1 + 1 ≡ j + 2 = omega arith in two)
-
-  wrong-inside : {j number : ℕ} → WrongField columns t j number → j < columns
-  wrong-inside (bad h c) = h
-  wrong-inside (missing h c m) = omega arith
-  wrong-inside (surplus h c m) = omega arith
-
-  first-told : (number : ℕ) → FirstWrong columns t number → rowFault 1 columns t ≡ number
-  first-told number f =
-      let j = f .place in
-      let inside = wrong-inside (f .wrong-here) in
-      let left = columns - (j + 1) in
-      let all : j + suc left ≡ columns = omega arith in
-      reaches j (suc left) all (f .right-before) ∙ wrong-told j number left all (f .wrong-here)
-
-  none-told : ((j : ℕ) → j < columns → Right columns t j) → rowFault 1 columns t ≡ 0
-  unfolding rowFault
-  none-told r = reaches columns 0 (add-zero columns) r
-
-wrong-number : {columns : ℕ} {t : List ℕ} {number : ℕ} → FirstWrong columns t number → 1 ≤ number
-wrong-number {columns = columns} {t = t} f = go (f .wrong-here)
+row-wrong : (left column : ℕ) (t : List ℕ) → 1 ≤ rowFault column left t → RowWrong left column t
+unfolding rowFault
+row-wrong zero column t h = absurd (omega arith)
+row-wrong (suc left) column t h = go (isCell t) refl (goesOn left t) refl h (row-wrong left (column + 1) (after t))
   where
-    go : {j number : ℕ} → WrongField columns t j number → 1 ≤ number
-    go (bad h c) = omega arith
-    go (missing h c m) = omega arith
-    go (surplus h c m) = omega arith
+    go : (p : Bool) → isCell t ≡ p → (q : Bool) → goesOn left t ≡ q → 1 ≤ cond p (cond q (rowFault (column + 1) left (after t)) (column + 1)) column
+        → (1 ≤ rowFault (column + 1) left (after t) → RowWrong left (column + 1) (after t)) → RowWrong (suc left) column t
+    go true e true g h later = followed column left t e g h (later h)
+    go true e false g h later = not-followed column left t e g
+    go false e q g h later = bad-here column left t e
 
--- ---- the records of a sheet
+-- one line further
+behind-a-line : {columns rows l number : ℕ} {r e before rest : List ℕ} {cs ls : List (List ℕ)} → RecordText columns r cs ls → LineEnd e
+    → WrongSheet columns rows before rest l number → WrongSheet columns (suc rows) (r ++ (e ++ before)) rest (suc l) number
+behind-a-line {columns = columns} {rows = rows} {r = r} {e = e} x y (in-record {k = k} {number = number} {a = a} {b = b} {rest = rest} ls h some w) =
+    subst (λ (v : List ℕ). WrongSheet columns (suc rows) v rest (suc (suc k)) number) (append-assoc r (e ++ a) b ∙ ap (λ (v : List ℕ). r ++ v) (append-assoc e a b))
+    (in-record (one-line x y ls) (omega arith) some w)
+behind-a-line {columns = columns} {rows = rows} {r = r} {e = e} x y (missing-record {k = k} {before = t} s h) =
+    subst (λ (v : List ℕ). WrongSheet columns (suc rows) v [] (suc (suc k)) 1) (append-assoc r e t) (missing-record (line x y s) (omega arith))
+behind-a-line x y (surplus-record ls) = surplus-record (one-line x y ls)
 
-module _ (columns rows : ℕ) (text : List ℕ) where
-  -- the text from record k on, and the place told from there on
-  abbrev from : ℕ → List ℕ
-  from k = past (k * columns) text
+-- a sheet of which a place is told is wrong there
+record SheetWrong (columns rows at : ℕ) (t : List ℕ) : Type 0 where
+  before : List ℕ
+  rest : List ℕ
+  n : ℕ
+  number : ℕ
+  all : t ≡ before ++ rest
+  wrong : WrongSheet columns rows before rest (suc n) number
+  told : sheetFault columns at rows t ≡ place (at + n) number
 
-  abbrev told : (k left : ℕ) → Place
-  told k left = sheetFault columns (k + 1) left (from k)
+module _ (k rows at b : ℕ) (u : List ℕ) where
+  abbrev columns : ℕ
+  columns = suc k
 
-  record-more : (k : ℕ) → ((i : ℕ) → i < k → RightRecord columns (from i)) → RightRecord columns (from k) → (i : ℕ) → i < k + 1 → RightRecord columns (from i)
-  record-more k before here i h = go (ltb i k) refl
-    where
-      go : (s : Bool) → ltb i k ≡ s → RightRecord columns (from i)
-      go true e = before i (ltb-true i k e)
-      go false e = let last = ltb-false i k e in subst (λ (n : ℕ). RightRecord columns (from n)) (let same : k ≡ i = omega arith in same) here
+  abbrev t : List ℕ
+  t = b ∷ u
 
-  right-record : (k : ℕ) → 1 ≤ length (from k) → rowFault 1 columns (from k) ≡ 0 → RightRecord columns (from k)
-  unfolding past
-  right-record k some e = record { bytes = some; fields = all-right columns (from k) columns 0 (zero-add columns) (λ i h. absurd (omega (arith, h))) e }
+  some : eqb (length t) 0 ≡ false
+  some = ne-eqb (length t) 0 (λ (z : length t ≡ 0). omega arith)
 
-  wrong-field : (k : ℕ) → 1 ≤ rowFault 1 columns (from k) → FirstWrong columns (from k) (rowFault 1 columns (from k))
-  unfolding past
-  wrong-field k h = first-from columns (from k) columns 0 (zero-add columns) (λ i l. absurd (omega (arith, l))) h
+  same-line : at ≡ at + 0
+  same-line = omega arith
 
-  -- a place is the first one that is wrong
-  abbrev Told : Place → Type 0
-  Told p = FirstFault columns rows text (p .line) (p .field)
-
-  -- the place told is the first one that is wrong
-  fault-from : (left k : ℕ) → k + left ≡ rows → ((i : ℕ) → i < k → RightRecord columns (from i)) → 1 ≤ told k left .line → Told (told k left)
+  -- bytes behind the last row
+  too-many : SheetWrong columns 0 at t
   unfolding sheetFault
-  fault-from zero k e before h = go (eqb (length (from k)) 0) refl h
-    where
-      go : (p : Bool) → eqb (length (from k)) 0 ≡ p → 1 ≤ cond p (place 0 0) (place (k + 1) 1) .line → Told (cond p (place 0 0) (place (k + 1) 1))
-      go true f h = absurd (omega arith)
-      go false f h =
-          let some = eqb-false (length (from k)) 0 f in
-          record { before = k; is-line = refl; right-before = before; wrong-here = surplus-record (omega arith) (omega arith) }
-  fault-from (suc left) k e before h =
-      go (eqb (length (from k)) 0) refl (eqb (rowFault 1 columns (from k)) 0) refl h
-      (λ r more. fault-from left (k + 1) (omega (arith, e)) (record-more k before r) more)
-    where
-      go : (p : Bool) → eqb (length (from k)) 0 ≡ p → (q : Bool) → eqb (rowFault 1 columns (from k)) 0 ≡ q
-          → 1 ≤ cond p (place (k + 1) 1) (cond q (sheetFault columns (k + 1 + 1) left (past columns (from k))) (place (k + 1) (rowFault 1 columns (from k)))) .line
-          → (RightRecord columns (from k) → 1 ≤ told (k + 1) left .line → Told (told (k + 1) left))
-          → Told (cond p (place (k + 1) 1) (cond q (sheetFault columns (k + 1 + 1) left (past columns (from k))) (place (k + 1) (rowFault 1 columns (from k)))))
-      go true f q g h later = record { before = k; is-line = refl; right-before = before; wrong-here = no-record (omega arith) (eqb-true (length (from k)) 0 f) }
-      go false f true g h later =
-          let some = eqb-false (length (from k)) 0 f in
-          let right = right-record k (omega arith) (eqb-true (rowFault 1 columns (from k)) 0 g) in
-          rw (← past-row k columns text) (later right (rw (past-row k columns text) h))
-      go false f false g h later =
-          let some = eqb-false (length (from k)) 0 f in
-          let number = eqb-false (rowFault 1 columns (from k)) 0 g in
-          record { before = k; is-line = refl; right-before = before; wrong-here = in-record (omega arith) (omega arith) (wrong-field k (omega arith)) }
+  too-many = record { before = []; rest = t; n = 0; number = 1; all = refl; wrong = surplus-record no-line; told = rw some (ap (λ (n : ℕ). place n 1) same-line) }
 
-  -- past a record that is right
-  record-goes-on : (k left : ℕ) → RightRecord columns (from k) → told k (suc left) ≡ told (k + 1) left
+  -- the record itself is wrong
+  in-this : eqb (rowFault 1 columns t) 0 ≡ false → SheetWrong columns (suc rows) at t
   unfolding sheetFault
-  record-goes-on k left r =
-      let bytes = r .bytes in
-      rw (ne-eqb (length (from k)) 0 (λ (z : length (from k) ≡ 0). omega arith), none-told columns (from k) (r .fields), past-row k columns text)
+  in-this e =
+      let h = eqb-false (rowFault 1 columns t) 0 e in
+      let w = row-wrong columns 1 t (omega arith) in
+      let first : 1 + w .n ≡ suc (w .n) = omega arith in
+      record {
+        before = w .before;
+        rest = w .rest;
+        n = 0;
+        number = suc (w .n);
+        all = w .all;
+        wrong = in-record no-line (omega arith) (subst (λ (v : List ℕ). 1 ≤ length v) (w .all) (omega arith)) (w .wrong);
+        told = rw (some, e) (ap₂ place same-line (w .told ∙ first));
+      }
 
-  reaches-record : (k left : ℕ) → k + left ≡ rows → ((i : ℕ) → i < k → RightRecord columns (from i)) → sheetFault columns 1 rows text ≡ told k left
-  reaches-record zero left e r = ap (λ (n : ℕ). sheetFault columns 1 n text) (sym e ∙ zero-add left) ∙ ap (λ (t : List ℕ). sheetFault columns 1 left t) (sym (past-none columns text))
-  reaches-record (suc k) left e r =
-      let up : k + suc left ≡ rows = omega arith in
-      reaches-record k (suc left) up (λ i h. r i (omega (arith, h))) ∙ record-goes-on k left (r k (omega arith)) ∙ ap (λ (n : ℕ). told n left) (add-one k)
-
-  wrong-record-told : (k number : ℕ) → ((i : ℕ) → i < k → RightRecord columns (from i)) → WrongRecord columns rows k (from k) number → sheetFault columns 1 rows text ≡ place (k + 1) number
+  -- the record is right, and what follows it is wrong
+  later-told : eqb (rowFault 1 columns t) 0 ≡ true → sheetFault columns at (suc rows) t ≡ sheetFault columns (at + 1) rows (past columns t)
   unfolding sheetFault
-  wrong-record-told k number before (no-record h z) =
-      let left = rows - (k + 1) in
-      let all : k + suc left ≡ rows = omega arith in
-      reaches-record k (suc left) all before ∙ rw (eq-eqb (length (from k)) 0 z)
-  wrong-record-told k number before (surplus-record e some) =
-      let all : k + 0 ≡ rows = omega arith in
-      reaches-record k 0 all before ∙ rw (ne-eqb (length (from k)) 0 (λ (z : length (from k) ≡ 0). omega arith))
-  wrong-record-told k number before (in-record h some f) =
-      let left = rows - (k + 1) in
-      let all : k + suc left ≡ rows = omega arith in
-      let number-is = first-told columns (from k) number f in
-      let told-number = wrong-number f in
-      reaches-record k (suc left) all before
-      ∙ rw (ne-eqb (length (from k)) 0 (λ (z : length (from k) ≡ 0). omega arith), number-is, ne-eqb number 0 (λ (z : number ≡ 0). omega arith))
+  later-told e = rw (some, e)
 
-  -- the place that a refusal names is the first one that is wrong
-  pub the-first : 1 ≤ sheetFault columns 1 rows text .line → FirstFault columns rows text (sheetFault columns 1 rows text .line) (sheetFault columns 1 rows text .field)
-  the-first h =
-      let start = reaches-record 0 rows (zero-add rows) (λ i l. absurd (omega (arith, l))) in
-      rw start (fault-from rows 0 (zero-add rows) (λ i l. absurd (omega (arith, l))) (rw (← start) h))
+  module _ (e : eqb (rowFault 1 columns t) 0 ≡ true) (h : 1 ≤ sheetFault columns (at + 1) rows (past columns t) .line) where
+    in-later : SheetWrong columns rows (at + 1) (past columns t) → SheetWrong columns (suc rows) at t
+    unfolding sheetFault
+    in-later w = let r = row-text 1 k t (omega arith) (eqb-true (rowFault 1 columns t) 0 e) in by (r .ends) refl refl (r .is-record) (r .all)
+      where
+        -- no bytes behind it: either that was the last row, or the next is missing
+        short : (left : ℕ) → rows ≡ left → {r : List ℕ} {cs ls : List (List ℕ)} → RecordText columns r cs ls → t ≡ r → [] ≡ past columns t → SheetWrong columns (suc rows) at t
+        short zero z x all p =
+            let none : 1 ≤ sheetFault columns (at + 1) 0 [] .line = subst₂ (λ (n : ℕ) (v : List ℕ). 1 ≤ sheetFault columns (at + 1) n v .line) z (sym p) h in
+            absurd (omega arith)
+        short (suc left) z {cs = cs} {ls = ls} x all p =
+            record {
+              before = t;
+              rest = [];
+              n = 1;
+              number = 1;
+              all = sym (append-nil t);
+              wrong = missing-record (open-ended (subst (λ (v : List ℕ). RecordText columns v cs ls) (sym all) x)) (omega arith);
+              told = later-told e ∙ ap₂ (sheetFault columns (at + 1)) z (sym p);
+            }
 
-  -- and where a place is the first one that is wrong, the sheet is refused with it
-  pub only-the-first : (at number : ℕ) → FirstFault columns rows text at number → sheetFault columns 1 rows text ≡ place at number
-  only-the-first at number f = wrong-record-told (f .before) number (f .right-before) (f .wrong-here) ∙ ap (λ (n : ℕ). place n number) (sym (f .is-line))
+        by : {more : Bool} {r sep tail : List ℕ} {cs ls : List (List ℕ)} → Separator more sep tail → more ≡ false → tail ≡ past columns t → RecordText columns r cs ls → t ≡ r ++ (sep ++ tail)
+            → SheetWrong columns (suc rows) at t
+        by {r = r} at-end m p x all = short rows refl x (all ∙ append-nil r) p
+        by at-comma m p x all = absurd (true≢false m)
+        by {r = r} {sep = sep} (at-line l) m p x all =
+            let up : at + 1 + w .n ≡ at + suc (w .n) = omega arith in
+            record {
+              before = r ++ (sep ++ w .before);
+              rest = w .rest;
+              n = suc (w .n);
+              number = w .number;
+              all =
+                  all ∙ ap (λ (v : List ℕ). r ++ (sep ++ v)) (p ∙ w .all) ∙ ap (λ (v : List ℕ). r ++ v) (sym (append-assoc sep (w .before) (w .rest)))
+                  ∙ sym (append-assoc r (sep ++ w .before) (w .rest));
+              wrong = behind-a-line x l (w .wrong);
+              told = later-told e ∙ w .told ∙ ap (λ (n : ℕ). place n (w .number)) up;
+            }
 
-  -- the same of the refusal, number 19 with the line and the field
-  pub refused-at-first : (at number : ℕ) → FirstFault columns rows text at number → sheetVerdict rows columns text ≡ refuses 19 (at ∷ number ∷ [])
-  refused-at-first at number f =
-      let from-1 = f .is-line in
-      rw (only-the-first at number f, lt-ltb 0 at (omega arith))
+sheet-wrong : (k rows at : ℕ) (t : List ℕ) → 1 ≤ sheetFault (suc k) at rows t .line → SheetWrong (suc k) rows at t
+unfolding sheetFault
+sheet-wrong k zero at [] h = absurd (omega arith)
+sheet-wrong k zero at (b ∷ u) h = too-many k 0 at b u
+sheet-wrong k (suc rows) at [] h =
+    record { before = []; rest = []; n = 0; number = 1; all = refl; wrong = missing-record none (omega arith); told = ap (λ (n : ℕ). place n 1) (let same : at ≡ at + 0 = omega arith in same) }
+sheet-wrong k (suc rows) at (b ∷ u) h =
+    go (eqb (rowFault 1 (suc k) (b ∷ u)) 0) refl
+    (λ e. sheet-wrong k rows (at + 1) (past (suc k) (b ∷ u)) (subst (λ (p : Place). 1 ≤ p .line) (later-told k rows at b u e) h))
+  where
+    go : (q : Bool) → eqb (rowFault 1 (suc k) (b ∷ u)) 0 ≡ q → (eqb (rowFault 1 (suc k) (b ∷ u)) 0 ≡ true → SheetWrong (suc k) rows (at + 1) (past (suc k) (b ∷ u))) → SheetWrong (suc k) (suc rows) at (b ∷ u)
+    go true e later = in-later k rows at b u e (subst (λ (p : Place). 1 ≤ p .line) (later-told k rows at b u e) h) (later e)
+    go false e later = in-this k rows at b u e
 
-  pub refused-is-first : (at number : ℕ) → sheetVerdict rows columns text ≡ refuses 19 (at ∷ number ∷ []) → FirstFault columns rows text at number
-  refused-is-first at number e = go (ltb 0 (sheetFault columns 1 rows text .line)) refl e
+-- ---- the refusal and the place
+
+-- a place at which a text is wrong first is told: there is one at most, and no sheet of the grid goes on so
+module _ {columns rows : ℕ} {text : List ℕ} where
+  pub told-at-first : {l number : ℕ} → FirstFault columns rows text l number → sheetFault columns 1 rows text ≡ place l number
+  told-at-first f = ap (sheetFault columns 1 rows) (f .all) ∙ place-told (f .wrong-here)
+
+  pub one-place : {l m number other : ℕ} → FirstFault columns rows text l number → FirstFault columns rows text m other → (l ≡ m) × (number ≡ other)
+  one-place f g =
+      let same = sym (told-at-first f) ∙ told-at-first g in
+      (ap (λ (p : Place). p .line) same, ap (λ (p : Place). p .field) same)
+
+some-line : {columns rows l number : ℕ} {before rest : List ℕ} → WrongSheet columns rows before rest l number → 1 ≤ l
+some-line (in-record ls h bytes w) = omega arith
+some-line (missing-record s h) = omega arith
+some-line (surplus-record ls) = omega arith
+
+pub refused-at-first : {columns rows : ℕ} {text : List ℕ} {l number : ℕ} → FirstFault columns rows text l number → sheetVerdict rows columns text ≡ refuses 19 (l ∷ number ∷ [])
+refused-at-first {l = l} f =
+    let from-1 = some-line (f .wrong-here) in
+    rw (told-at-first f, lt-ltb 0 l (omega arith))
+
+-- the other way round: the place that a refusal names is the first that is wrong
+module _ (columns rows : ℕ) (text : List ℕ) (some : 1 ≤ columns) where
+  found-first : SheetWrong columns rows 1 text → FirstFault columns rows text (sheetFault columns 1 rows text .line) (sheetFault columns 1 rows text .field)
+  found-first w = subst (λ (p : Place). FirstFault columns rows text (p .line) (p .field)) (sym at) here
+    where
+      first : 1 + w .n ≡ suc (w .n)
+      first = omega arith
+
+      at : sheetFault columns 1 rows text ≡ place (suc (w .n)) (w .number)
+      at = w .told ∙ ap (λ (n : ℕ). place n (w .number)) first
+
+      here : FirstFault columns rows text (suc (w .n)) (w .number)
+      here = record { before = w .before; rest = w .rest; all = w .all; right-before = right-before some (w .wrong); wrong-here = w .wrong }
+
+  first-found : 1 ≤ sheetFault columns 1 rows text .line → FirstFault columns rows text (sheetFault columns 1 rows text .line) (sheetFault columns 1 rows text .field)
+  first-found h =
+      let up : suc (columns - 1) ≡ columns = omega arith in
+      found-first (subst (λ (n : ℕ). SheetWrong n rows 1 text) up (sheet-wrong (columns - 1) rows 1 text (subst (λ (n : ℕ). 1 ≤ sheetFault n 1 rows text .line) (sym up) h)))
+
+  pub refused-is-first : (l number : ℕ) → sheetVerdict rows columns text ≡ refuses 19 (l ∷ number ∷ []) → FirstFault columns rows text l number
+  refused-is-first l number e = go (ltb 0 (sheetFault columns 1 rows text .line)) refl e
     where
       go : (b : Bool) → ltb 0 (sheetFault columns 1 rows text .line) ≡ b
-          → refuseIf b 19 (sheetFault columns 1 rows text .line ∷ sheetFault columns 1 rows text .field ∷ []) ≡ refuses 19 (at ∷ number ∷ []) → FirstFault columns rows text at number
+          → refuseIf b 19 (sheetFault columns 1 rows text .line ∷ sheetFault columns 1 rows text .field ∷ []) ≡ refuses 19 (l ∷ number ∷ []) → FirstFault columns rows text l number
       go true f r =
-          let same-line : sheetFault columns 1 rows text .line ≡ at = cc in
+          let same-line : sheetFault columns 1 rows text .line ≡ l = cc in
           let same-field : sheetFault columns 1 rows text .field ≡ number = cc in
-          subst₂ (FirstFault columns rows text) same-line same-field (the-first (ltb-true 0 (sheetFault columns 1 rows text .line) f))
+          subst₂ (FirstFault columns rows text) same-line same-field (first-found (ltb-true 0 (sheetFault columns 1 rows text .line) f))
       go false f r = let z : _≡_ {A = ℕ} 0 1 = cc in absurd (omega arith)
+
+-- what is wrong at a place goes on with no sheet of the grid
+pub no-sheet : {columns rows l number : ℕ} {before rest : List ℕ} {cs ls : List (List ℕ)} → WrongSheet columns rows before rest l number → SheetText columns rows (before ++ rest) cs ls → ⊥
+no-sheet w s =
+    let told = ap (λ (p : Place). p .line) (sym (complete s .no-fault 1) ∙ place-told w) in
+    let from-1 = some-line w in
+    omega arith
+
+-- ---- the same of the call that reads
+
+module _ (rows columns : ℕ) (text offsets tiles : List ℕ) (l number : ℕ) where
+  abbrev Reads19 : Type 0
+  Reads19 = readVerdict rows columns text offsets tiles ≡ refuses 19 (l ∷ number ∷ [])
+
+  -- where it refuses with 19, the line and the field are the first place at which the text is wrong
+  pub read-refused-is-first : Reads19 → FirstFault columns rows text l number
+  read-refused-is-first e =
+      go (isSide rows && isSide columns) refl (sheetVerdict rows columns text) refl (not (eqb (length offsets) (rows * columns + 1))) (ltb (length tiles) (tileCount rows columns text)) e
+    where
+      another : {n : ℕ} {values : List ℕ} → refuses n values ≡ refuses 19 (l ∷ number ∷ []) → (n ≡ 19 → ⊥) → FirstFault columns rows text l number
+      another f no-19 = absurd (no-19 (ap numberIn f))
+
+      go : (p : Bool) → (isSide rows && isSide columns) ≡ p → (v : Verdict) → sheetVerdict rows columns text ≡ v → (a b : Bool)
+          → refuseIf (not p) 1 [] ▷ v ▷ refuseIf a 5 [] ▷ refuseIf b 9 (tileCount rows columns text ∷ []) ≡ refuses 19 (l ∷ number ∷ []) → FirstFault columns rows text l number
+      go false s v f a b e = another e (λ (z : 1 ≡ 19). omega arith)
+      go true s (refuses n values) f a b e =
+          refused-is-first columns rows text (leb-true 1 columns (both (leb 1 columns) (leb columns 32) (both (isSide rows) (isSide columns) s .1) .0)) l number (f ∙ e)
+      go true s passes f true b e = another e (λ (z : 5 ≡ 19). omega arith)
+      go true s passes f false true e = another e (λ (z : 9 ≡ 19). omega arith)
+      go true s passes f false false e = absurd (let z : _≡_ {A = ℕ} 0 19 = ap numberIn e in omega arith)
+
+  -- and over a grid of the right size it refuses so where a place is the first
+  pub read-refused-at-first : (isSide rows && isSide columns) ≡ true → FirstFault columns rows text l number → Reads19
+  read-refused-at-first sides f = rw (sides, refused-at-first f)

@@ -10,4 +10,5 @@ pub mod RoundTrip
 pub mod FromSheetToSet
 pub mod SameText
 pub mod Quoting
+pub mod Beginnings
 pub mod FirstFault
