@@ -1,2 +1,3 @@
 pub mod Fields
-pub mod ReadThenRun
+pub mod TwoCalls
+pub mod TheChemistsAnswer

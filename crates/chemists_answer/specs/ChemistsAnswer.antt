@@ -20,7 +20,7 @@ pub record ChemistsAnswer (s : System) (sheet : List ℕ) (given : Constraints) 
   pub contents : List (List ℕ)
   pub lists : List (List ℕ)
   pub is-sheet : SheetText (s .sizes .cols) (s .sizes .rows) sheet contents lists
-  -- a bay whose field is `0`, bare or in quotes, has 0 in the layout: it stays empty, and so also where it has a seed
+  -- a bay whose field is `0`, bare or in quotes, has 0 in the layout: it stays empty (with another seed than 0 on it the run refuses, 7)
   pub keeps-it-empty : (bay : ℕ) → bay < bays (s .sizes) → getD contents bay [] ≡ 48 ∷ [] → getD layout bay 0 ≡ 0
   -- where a bay's field has no content, the bay's legal strands are those that it has without constraints
   pub restricts-nothing : (bay : ℕ) → bay < bays (s .sizes) → getD contents bay [] ≡ [] → (strand : ℕ) → isLegal s given bay strand ≡ isLegal s unconstrained bay strand

@@ -33,7 +33,8 @@ use Rattle.sheet_grammar.proofs.Offsets.{starts-shaped, list-of-starts}
 
 -- ---- the field of a bay
 
-length-cells : (n : ℕ) (t : List ℕ) → length (cells n t) ≡ n
+-- there is a list for each field
+pub length-cells : (n : ℕ) (t : List ℕ) → length (cells n t) ≡ n
 unfolding cells
 length-cells zero t = refl
 length-cells (suc n) t = ap suc (length-cells n (after t))
