@@ -11,4 +11,5 @@ pub mod FromSheetToSet
 pub mod SameText
 pub mod Quoting
 pub mod Beginnings
+pub mod Faults
 pub mod FirstFault
