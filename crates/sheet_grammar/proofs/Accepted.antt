@@ -15,8 +15,8 @@ use Rattle.number_lists.specs.NumberLists.{isList, listIn}
 use Rattle.sheet_fields.specs.Runs.{contents, past, goesOn}
 use Rattle.sheet_fields.proofs.Runs.{contents-add}
 use Rattle.sheet_cells.specs.Cells.{isCell, cells, rowFault, place, sheetFault, sheetVerdict}
-use Rattle.sheet_grammar.specs.Grammar.{RecordText, last, comma, LineEnd, lf, crlf, SheetText, none, line, open-ended}
-use Rattle.sheet_grammar.proofs.OneField.{Separator, at-end, at-comma, at-line, Begins, field-read, cell-text, cell-read}
+use Rattle.sheet_grammar.specs.Grammar.{RecordText, last, comma, LineEnd, lf, crlf, Separator, at-end, at-comma, at-line, SheetText, none, line, open-ended}
+use Rattle.sheet_grammar.proofs.OneField.{Begins, field-read, cell-text, cell-read}
 
 -- ---- the fields after some fields
 
@@ -33,12 +33,12 @@ one-row rows columns = suc-mul rows columns ∙ add-comm (rows * columns) column
 -- ---- what is accepted is of the grammar
 
 -- a text is a record of the grammar with the contents and lists read, its end, and what is left
-record Row (k : ℕ) (t : List ℕ) : Type 0 where
-  text : List ℕ
-  sep : List ℕ
-  is-record : RecordText k text (contents k t) (cells k t)
-  ends : Separator false sep (past k t)
-  all : t ≡ text ++ (sep ++ past k t)
+pub record Row (k : ℕ) (t : List ℕ) : Type 0 where
+  pub text : List ℕ
+  pub sep : List ℕ
+  pub is-record : RecordText k text (contents k t) (cells k t)
+  pub ends : Separator false sep (past k t)
+  pub all : t ≡ text ++ (sep ++ past k t)
 
 -- a row without a fault: its first field is a cell, followed as it should be, and so is the rest
 record Sound (column left : ℕ) (t : List ℕ) : Type 0 where
@@ -77,7 +77,7 @@ by-comma at-end e = absurd (true≢false (sym e))
 by-comma at-comma e = refl
 by-comma (at-line l) e = absurd (true≢false (sym e))
 
-row-text : (column left : ℕ) (t : List ℕ) → 1 ≤ column → rowFault column (suc left) t ≡ 0 → Row (suc left) t
+pub row-text : (column left : ℕ) (t : List ℕ) → 1 ≤ column → rowFault column (suc left) t ≡ 0 → Row (suc left) t
 unfolding contents cells past
 row-text column zero t h e =
     let s = sound-first column zero t h e in
@@ -201,7 +201,7 @@ pub record Starts (k : ℕ) (t : List ℕ) (cs ls : List (List ℕ)) (tail : Lis
   pub lists : cells k t ≡ ls
   pub leaves : past k t ≡ tail
 
-some-field : {k : ℕ} {t : List ℕ} {cs ls : List (List ℕ)} → RecordText k t cs ls → 1 ≤ k
+pub some-field : {k : ℕ} {t : List ℕ} {cs ls : List (List ℕ)} → RecordText k t cs ls → 1 ≤ k
 some-field (last f) = omega arith
 some-field (comma {k = k} f r) = omega arith
 
@@ -256,7 +256,7 @@ then-rows {columns = columns} {rows = rows} {t = t} some s r =
       lists = split-cells columns rows t ∙ rw (s .lists, s .leaves, r .lists) refl;
     }
 
-some-byte : {e : List ℕ} → LineEnd e → 1 ≤ length e
+pub some-byte : {e : List ℕ} → LineEnd e → 1 ≤ length e
 some-byte lf = omega arith
 some-byte crlf = omega arith
 

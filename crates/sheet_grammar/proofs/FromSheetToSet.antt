@@ -1,11 +1,10 @@
 -- From the bytes of a sheet to the sets of its bays: a field `0` keeps its bay empty, a field without content restricts nothing. Assumes nothing.
 use Prim.Native.Nat.{ℕ, zero, suc, _*_, _≤_, _<_}
-use mathlib.Core.Path.{_≡_, refl, sym, _∙_, ap}
+use mathlib.Core.Path.{_≡_, refl, sym, _∙_, ap, ap₂}
 use mathlib.Core.Bool.{true, false, not, _&&_}
 use mathlib.Core.List.{List, [], _∷_, _++_}
 use native.Mathlib.Omega.{arith}
-use lib.ListN.{length, getD, take, drop}
-use lib.Seq.{take-append-seam}
+use lib.ListN.{length, getD, take}
 use lib.Dec.{leb}
 use borrow.Author.Tests.{leb-true, not-false}
 use Rattle.entries.proofs.Same.{both}
@@ -22,18 +21,20 @@ use Rattle.legal.proofs.Seven.{set-of-bay}
 use Rattle.sheet_fields.specs.Fields.{after}
 use Rattle.number_lists.specs.NumberLists.{isList, listIn}
 use Rattle.sheet_fields.specs.Runs.{contents}
-use Rattle.sheet_cells.specs.Cells.{cells, allTiles, starts, front}
+use Rattle.sheet_cells.specs.Cells.{cells}
 use Rattle.sheet.specs.Read.{sheetLists, tileCount, readVerdict, offsetsAfter, tilesAfter}
 use Rattle.sheet_grammar.specs.Contents.{sheetConstraints, bayContent}
 use Rattle.sheet_grammar.specs.Grammar.{RecordText, last, comma, SheetText, none, line, open-ended}
 use Rattle.sheet_grammar.proofs.Contents.{0-reads-as-0, only-0-reads-as-0, nothing-reads-as-empty, only-nothing-reads-as-empty}
 use Rattle.sheet_grammar.proofs.OneField.{cell-read}
 use Rattle.sheet_grammar.proofs.Accepted.{NoFault, sound}
+use Rattle.sheet_grammar.proofs.Calls.{read-offsets, read-tiles}
 use Rattle.sheet_grammar.proofs.Offsets.{starts-shaped, list-of-starts}
 
 -- ---- the field of a bay
 
-length-cells : (n : ℕ) (t : List ℕ) → length (cells n t) ≡ n
+-- there is a list for each field
+pub length-cells : (n : ℕ) (t : List ℕ) → length (cells n t) ≡ n
 unfolding cells
 length-cells zero t = refl
 length-cells (suc n) t = ap suc (length-cells n (after t))
@@ -128,10 +129,7 @@ module _ (s : System) (text : List ℕ) (bay : ℕ) (inside : bay < bays (s .siz
     -- they are the constraints that the sheet's lists are
     pub left-is : left ≡ sheetConstraints rows columns text
     left-is =
-        let numbers = allTiles (sheetLists rows columns text) in
-        ap
-        (λ (v : Verdict). constraints true (ifPasses v (starts 0 (sheetLists rows columns text)) o) (take (tileCount rows columns text) (ifPasses v (front numbers t) t))) read
-        ∙ ap (λ (l : List ℕ). constraints true (starts 0 (sheetLists rows columns text)) l) (take-append-seam numbers (drop (length numbers) t))
+        ap₂ (λ (offsets numbers : List ℕ). constraints true offsets numbers) (read-offsets rows columns text o t read) (read-tiles rows columns text o t read)
 
     -- where both calls pass, the lent slice of sets has 1 at an unseeded bay whose field is `0`
     module _ (sets : List ℕ) (found : allowedVerdict s (length sets) left ≡ passes) where

@@ -8,5 +8,8 @@ pub mod Numbers
 pub mod Offsets
 pub mod RoundTrip
 pub mod FromSheetToSet
+pub mod SameText
 pub mod Quoting
+pub mod Beginnings
+pub mod Faults
 pub mod FirstFault

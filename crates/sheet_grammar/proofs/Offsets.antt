@@ -30,12 +30,13 @@ unfolding starts
 length-starts n [] = refl
 length-starts n (l ∷ ls) = let more = length-starts (n + length l) ls in omega arith
 
--- the places at which lists begin have the shape of offsets
-last-start : (n : ℕ) (ls : List (List ℕ)) → getD (starts n ls) (length ls) 0 ≡ n + length (allTiles ls)
+-- the last offset is how many numbers the lists have
+pub last-start : (n : ℕ) (ls : List (List ℕ)) → getD (starts n ls) (length ls) 0 ≡ n + length (allTiles ls)
 unfolding starts allTiles
 last-start n [] = omega arith
 last-start n (l ∷ ls) = let more = last-start (n + length l) ls in let sum = length-append l (allTiles ls) in omega arith
 
+-- the places at which lists begin have the shape of offsets
 starts-fit : (end last n : ℕ) (ls : List (List ℕ)) → last ≤ n → n + length (allTiles ls) ≤ end → offsetsFrom end last (starts n ls) ≡ true
 unfolding starts allTiles offsetsFrom
 starts-fit end last n [] h k = rw (le-leb last n h, le-leb n end (omega arith))

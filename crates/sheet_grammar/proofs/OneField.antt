@@ -16,15 +16,9 @@ use Rattle.sheet_fields.specs.declared.Ending.{Ending}
 use Rattle.sheet_fields.specs.declared.Field.{Field}
 use Rattle.number_lists.specs.NumberLists.{isList, listIn}
 use Rattle.sheet_cells.specs.Cells.{isCell}
-use Rattle.sheet_grammar.specs.Grammar.{FieldText, bare, quoted, LineEnd, lf, crlf}
+use Rattle.sheet_grammar.specs.Grammar.{FieldText, bare, quoted, lf, crlf, Separator, at-end, at-comma, at-line}
 use Rattle.sheet_grammar.proofs.Contents.{list-read, list-text}
 use Rattle.sheet_grammar.proofs.Bare.{Bare, bare-list, bare-unquoted, bare-length, quoted-length, bare-itself, only-itself}
-
--- what stands after a field, whether its record goes on, and the text after that: the end, a comma or a line ending
-pub data Separator : (more : Bool) → (text tail : List ℕ) → Type 0 where
-  at-end : Separator false [] []
-  at-comma : {u : List ℕ} → Separator true (44 ∷ []) u
-  at-line : {e : List ℕ} {u : List ℕ} → LineEnd e → Separator false e u
 
 -- ---- a field of the grammar is read
 

@@ -19,6 +19,7 @@ use Rattle.sheet_cells.specs.Cells.{place, sheetFault, allTiles, starts, front}
 use Rattle.sheet_text.specs.Written.{gap, spaced, separator, rowText, sheetText}
 use Rattle.sheet.specs.Read.{isSide, gridVerdict, sheetLists, tileCount, readVerdict, offsetsAfter, tilesAfter}
 use Rattle.sheet.specs.Write.{sheetBytes, bytesNeeded, writeVerdict, textAfter}
+use Rattle.sheet_grammar.specs.AsWritten.{WrittenRecord, last-field, field-before, WrittenSheet, no-record, ended-record}
 use Rattle.sheet_grammar.specs.Contents.{listsOf}
 use Rattle.sheet_grammar.specs.Grammar.{NumbersText, one, another, ListText, nothing, numbers, bare, RecordText, last, comma, crlf, SheetText, none, line}
 use Rattle.sheet_grammar.proofs.Numbers.{text-worth, text-is-plain}
@@ -37,15 +38,15 @@ unfolding spaced gap
 spaced-on i [] = refl
 spaced-on i (n ∷ ns) = ap (λ (t : List ℕ). ((32 ∷ []) ++ numberText n) ++ t) (spaced-on (suc i) ns ∙ sym (spaced-on 1 ns))
 
-spaced-first : (n : ℕ) (ns : List ℕ) → spaced 0 (n ∷ ns) ≡ numberText n ++ spaced 1 ns
+pub spaced-first : (n : ℕ) (ns : List ℕ) → spaced 0 (n ∷ ns) ≡ numberText n ++ spaced 1 ns
 unfolding spaced gap
 spaced-first n ns = refl
 
-spaced-next : (n : ℕ) (ns : List ℕ) → spaced 1 (n ∷ ns) ≡ 32 ∷ spaced 0 (n ∷ ns)
+pub spaced-next : (n : ℕ) (ns : List ℕ) → spaced 1 (n ∷ ns) ≡ 32 ∷ spaced 0 (n ∷ ns)
 unfolding spaced gap
 spaced-next n ns = ap (λ (t : List ℕ). (32 ∷ numberText n) ++ t) (spaced-on 1 ns)
 
-none-spaced : spaced 1 [] ≡ []
+pub none-spaced : spaced 1 [] ≡ []
 unfolding spaced
 none-spaced = refl
 
@@ -78,7 +79,7 @@ module _ (c : Constraints) (small : (bay : ℕ) → Below (listOf c bay)) where
   -- a row without its line ending
   record Row (bay k : ℕ) : Type 0 where
     text : List ℕ
-    is-record : RecordText k text (written bay k) (listsOf c bay k)
+    is-record : WrittenRecord k text (written bay k) (listsOf c bay k)
     all : rowText c bay k ≡ text ++ 13 ∷ 10 ∷ []
 
   row-written : (k bay : ℕ) → Row bay (suc k)
@@ -86,7 +87,7 @@ module _ (c : Constraints) (small : (bay : ℕ) → Below (listOf c bay)) where
   row-written zero bay =
       record {
         text = spaced 0 (listOf c bay);
-        is-record = last (bare (list-written (listOf c bay) (small bay)));
+        is-record = last-field (list-written (listOf c bay) (small bay));
         all = append-nil (spaced 0 (listOf c bay) ++ 13 ∷ 10 ∷ []);
       }
   row-written (suc k) bay =
@@ -94,7 +95,7 @@ module _ (c : Constraints) (small : (bay : ℕ) → Below (listOf c bay)) where
       let first = spaced 0 (listOf c bay) in
       record {
         text = first ++ 44 ∷ more .text;
-        is-record = comma (bare (list-written (listOf c bay) (small bay))) (more .is-record);
+        is-record = field-before (list-written (listOf c bay) (small bay)) (more .is-record);
         all =
             append-assoc first (44 ∷ []) (rowText c (bay + 1) (suc k)) ∙ ap (λ (t : List ℕ). first ++ 44 ∷ t) (more .all)
             ∙ sym (append-assoc first (44 ∷ more .text) (13 ∷ 10 ∷ []));
@@ -115,9 +116,9 @@ module _ (c : Constraints) (small : (bay : ℕ) → Below (listOf c bay)) where
   unfolding listsOf
   no-lists columns bay = rw (zero-mul columns)
 
-  rows-written : (k rows bay : ℕ) → SheetText (suc k) rows (sheetText c (suc k) bay rows) (written bay (rows * suc k)) (listsOf c bay (rows * suc k))
+  rows-written : (k rows bay : ℕ) → WrittenSheet (suc k) rows (sheetText c (suc k) bay rows) (written bay (rows * suc k)) (listsOf c bay (rows * suc k))
   unfolding sheetText
-  rows-written k zero bay = rw (no-lists (suc k) bay) none
+  rows-written k zero bay = rw (no-lists (suc k) bay) no-record
   rows-written k (suc rows) bay =
       let row = row-written k bay in
       let columns = suc k in
@@ -128,9 +129,19 @@ module _ (c : Constraints) (small : (bay : ℕ) → Below (listOf c bay)) where
       = sym (map-append (spaced 0) (listsOf c bay columns) (listsOf c (bay + columns) (rows * columns))) ∙ ap (map (spaced 0)) lists in
       let all : row .text ++ 13 ∷ 10 ∷ [] ++ sheetText c columns (bay + columns) rows ≡ rowText c bay columns ++ sheetText c columns (bay + columns) rows
       = ap (λ (t : List ℕ). t ++ sheetText c columns (bay + columns) rows) (sym (row .all)) in
-      subst (λ (t : List ℕ). SheetText columns (suc rows) t (written bay (suc rows * columns)) (listsOf c bay (suc rows * columns))) all
-      (subst₂ (λ (cs ls : List (List ℕ)). SheetText columns (suc rows) (row .text ++ 13 ∷ 10 ∷ [] ++ sheetText c columns (bay + columns) rows) cs ls) texts lists
-      (line (row .is-record) crlf more))
+      subst (λ (t : List ℕ). WrittenSheet columns (suc rows) t (written bay (suc rows * columns)) (listsOf c bay (suc rows * columns))) all
+      (subst₂ (λ (cs ls : List (List ℕ)). WrittenSheet columns (suc rows) (row .text ++ 13 ∷ 10 ∷ [] ++ sheetText c columns (bay + columns) rows) cs ls) texts lists
+      (ended-record (row .is-record) more))
+
+-- ---- the writer's form is of the grammar
+
+record-is-text : {k : ℕ} {t : List ℕ} {cs ls : List (List ℕ)} → WrittenRecord k t cs ls → RecordText k t cs ls
+record-is-text (last-field l) = last (bare l)
+record-is-text (field-before l r) = comma (bare l) (record-is-text r)
+
+pub written-is-sheet : {columns rows : ℕ} {t : List ℕ} {cs ls : List (List ℕ)} → WrittenSheet columns rows t cs ls → SheetText columns rows t cs ls
+written-is-sheet no-record = none
+written-is-sheet (ended-record r s) = line (record-is-text r) crlf (written-is-sheet s)
 
 -- ---- written and read again
 
@@ -164,13 +175,17 @@ module _ (rows columns : ℕ) (offsets tiles : List ℕ) (some : 1 ≤ columns) 
   abbrev bytes : List ℕ
   bytes = sheetBytes rows columns offsets tiles
 
-  -- what is written is a sheet of the grammar, of the lists of the bays in reading order
-  pub sheet-written : SheetText columns rows bytes (map (spaced 0) (listsOf c 0 (rows * columns))) (listsOf c 0 (rows * columns))
-  sheet-written = go columns some
+  -- what is written has the writer's form, of the lists of the bays in reading order
+  pub in-writers-form : WrittenSheet columns rows bytes (map (spaced 0) (listsOf c 0 (rows * columns))) (listsOf c 0 (rows * columns))
+  in-writers-form = go columns some
     where
-      go : (k : ℕ) → 1 ≤ k → SheetText k rows (sheetText c k 0 rows) (map (spaced 0) (listsOf c 0 (rows * k))) (listsOf c 0 (rows * k))
+      go : (k : ℕ) → 1 ≤ k → WrittenSheet k rows (sheetText c k 0 rows) (map (spaced 0) (listsOf c 0 (rows * k))) (listsOf c 0 (rows * k))
       go zero h = absurd (omega arith)
       go (suc k) h = rows-written c (λ bay. part-small tiles small (getD offsets bay 0) (getD offsets (bay + 1) 0)) k rows 0
+
+  -- and is a sheet of the grammar
+  pub sheet-written : SheetText columns rows bytes (map (spaced 0) (listsOf c 0 (rows * columns))) (listsOf c 0 (rows * columns))
+  sheet-written = written-is-sheet in-writers-form
 
   -- so it has no fault, and its lists are those of the bays
   pub no-fault-written : sheetFault columns 1 rows bytes ≡ place 0 0

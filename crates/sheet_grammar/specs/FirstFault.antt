@@ -1,47 +1,68 @@
--- What is said of the place that a refusal of a sheet names, in words: everything before it is right, and there a field is bad, missing
--- or surplus. Assumes nothing.
-use Prim.Native.Nat.{ℕ, _+_, _*_, _≤_, _<_}
+-- The place that a refusal of a sheet names, in the grammar's words: what stands before it begins a sheet of the grid, and there a field is bad,
+-- missing or surplus. Assumes nothing.
+use Prim.Native.Nat.{ℕ, suc, _≤_, _<_}
 use mathlib.Core.Path.{_≡_}
-use mathlib.Core.Bool.{true, false}
-use mathlib.Core.List.{List}
-use lib.Dec.{ltb}
+use mathlib.Core.Bool.{Bool, false}
+use mathlib.Core.List.{List, [], _∷_, _++_}
 use lib.ListN.{length}
-use Rattle.sheet_fields.specs.Fields.{field}
-use Rattle.sheet_fields.specs.Runs.{past}
-use Rattle.sheet_cells.specs.Cells.{isCell}
+use Rattle.sheet_grammar.specs.Grammar.{FieldText, RecordText, LineEnd, Separator, SheetText}
 
--- field j, from 0, of a record that begins a text is right: it is a cell, and a comma follows it exactly where fields are left
-pub record Right (columns : ℕ) (t : List ℕ) (j : ℕ) : Type 0 where
-  pub is-cell : isCell (past j t) ≡ true
-  pub followed : field (past j t) .more ≡ ltb (j + 1) columns
+-- a text begins with a field of the grammar that is ended: by the text's end, a comma or a line ending
+pub record FieldHere (t : List ℕ) : Type 0 where
+  pub text : List ℕ
+  pub content : List ℕ
+  pub list : List ℕ
+  pub more : Bool
+  pub sep : List ℕ
+  pub tail : List ℕ
+  pub is-field : FieldText text content list
+  pub ends : Separator more sep tail
+  pub all : t ≡ text ++ (sep ++ tail)
 
--- what is wrong at field j, and the number, from 1, of the field that is told: a bad field itself, else the one behind it that is
--- missing or surplus
-pub data WrongField (columns : ℕ) (t : List ℕ) (j : ℕ) : (number : ℕ) → Type 0 where
-  bad : j < columns → isCell (past j t) ≡ false → WrongField columns t j (j + 1)
-  missing : j + 1 < columns → isCell (past j t) ≡ true → field (past j t) .more ≡ false → WrongField columns t j (j + 2)
-  surplus : j + 1 ≡ columns → isCell (past j t) ≡ true → field (past j t) .more ≡ true → WrongField columns t j (j + 2)
+-- so many fields, each with a comma behind it
+pub data Fields : (count : ℕ) → (text : List ℕ) → Type 0 where
+  no-field : Fields 0 []
+  one-field : {t c ns u : List ℕ} {k : ℕ} → FieldText t c ns → Fields k u → Fields (suc k) (t ++ 44 ∷ u)
 
--- of a record the first field at which something is wrong
-pub record FirstWrong (columns : ℕ) (t : List ℕ) (number : ℕ) : Type 0 where
-  pub place : ℕ
-  pub right-before : (i : ℕ) → i < place → Right columns t i
-  pub wrong-here : WrongField columns t place number
+-- so many records, each with its line ending
+pub data Lines (columns : ℕ) : (count : ℕ) → (text : List ℕ) → Type 0 where
+  no-line : Lines columns 0 []
+  one-line : {t e u : List ℕ} {k : ℕ} {cs ls : List (List ℕ)} → RecordText columns t cs ls → LineEnd e → Lines columns k u
+      → Lines columns (suc k) (t ++ (e ++ u))
 
--- a text begins with a record that has bytes and all of whose fields are right
-pub record RightRecord (columns : ℕ) (t : List ℕ) : Type 0 where
-  pub bytes : 1 ≤ length t
-  pub fields : (j : ℕ) → j < columns → Right columns t j
+-- What is wrong with a record: what is right of it, what stands there instead of its next field, and that field's number, from 1.
+pub data WrongRecord (columns : ℕ) : (before rest : List ℕ) → (number : ℕ) → Type 0 where
+  -- a bad field: behind some fields, fewer than the columns, no field of the grammar stands
+  bad-field : {k : ℕ} {before rest : List ℕ} → Fields k before → k < columns → (FieldHere rest → ⊥) → WrongRecord columns before rest (suc k)
+  -- a missing field: behind fewer fields than the columns the text or the line ends
+  missing-field : {k : ℕ} {before sep tail : List ℕ} {cs ls : List (List ℕ)} → RecordText k before cs ls → k < columns → Separator false sep tail
+      → WrongRecord columns before (sep ++ tail) (suc k)
+  -- a surplus field: behind as many fields as the columns a comma stands
+  surplus-field : {before tail : List ℕ} {cs ls : List (List ℕ)} → RecordText columns before cs ls → WrongRecord columns before (44 ∷ tail) (suc columns)
 
--- what is wrong at record k, from 0, whose text and all behind it is t: it is not there, it is one too many, or a field of it is wrong
-pub data WrongRecord (columns rows k : ℕ) (t : List ℕ) : (number : ℕ) → Type 0 where
-  no-record : k < rows → length t ≡ 0 → WrongRecord columns rows k t 1
-  surplus-record : k ≡ rows → 1 ≤ length t → WrongRecord columns rows k t 1
-  in-record : {number : ℕ} → k < rows → 1 ≤ length t → FirstWrong columns t number → WrongRecord columns rows k t number
+-- What is wrong with a sheet: what is right of it, what stands there instead, and the line and the field told, from 1.
+pub data WrongSheet (columns rows : ℕ) : (before rest : List ℕ) → (line number : ℕ) → Type 0 where
+  -- behind some lines, fewer than the rows, there are bytes, and their record is wrong
+  in-record : {k number : ℕ} {a b rest : List ℕ} → Lines columns k a → k < rows → 1 ≤ length (b ++ rest) → WrongRecord columns b rest number
+      → WrongSheet columns rows (a ++ b) rest (suc k) number
+  -- a missing record: the text is a sheet of fewer rows
+  missing-record : {k : ℕ} {before : List ℕ} {cs ls : List (List ℕ)} → SheetText columns k before cs ls → k < rows → WrongSheet columns rows before [] (suc k) 1
+  -- a surplus record: behind as many lines as the rows there are bytes
+  surplus-record : {b : ℕ} {before tail : List ℕ} → Lines columns rows before → WrongSheet columns rows before (b ∷ tail) (suc rows) 1
 
--- a line and a field, both from 1, are the first place of a sheet at which something is wrong
+-- some sheet of the grid begins with a text
+pub record BeginsSheet (columns rows : ℕ) (before : List ℕ) : Type 0 where
+  pub tail : List ℕ
+  pub contents : List (List ℕ)
+  pub lists : List (List ℕ)
+  pub is-sheet : SheetText columns rows (before ++ tail) contents lists
+
+-- A line and a field are the first place of a text at which something is wrong.
 pub record FirstFault (columns rows : ℕ) (text : List ℕ) (line number : ℕ) : Type 0 where
-  pub before : ℕ
-  pub is-line : line ≡ before + 1
-  pub right-before : (i : ℕ) → i < before → RightRecord columns (past (i * columns) text)
-  pub wrong-here : WrongRecord columns rows before (past (before * columns) text) number
+  pub before : List ℕ
+  pub rest : List ℕ
+  pub all : text ≡ before ++ rest
+  -- what stands before the place is the beginning of a sheet of the grid
+  pub right-before : BeginsSheet columns rows before
+  -- and what stands there goes on with none
+  pub wrong-here : WrongSheet columns rows before rest line number

@@ -1,8 +1,8 @@
 -- The grammar of constraint sheets: which texts are sheets of so many rows and columns, what each field's content is, quotes taken
 -- off, and which list it stands for. Assumes nothing.
-use Prim.Native.Nat.{ℕ, zero, suc}
+use Prim.Native.Nat.{ℕ, suc}
 use mathlib.Core.Path.{_≡_}
-use mathlib.Core.Bool.{true}
+use mathlib.Core.Bool.{Bool, true, false}
 use mathlib.Core.List.{List, [], _∷_, _++_}
 use Rattle.case_numbers.specs.Digits.{worth}
 use Rattle.number_lists.specs.NumberLists.{isPlainNumber}
@@ -31,6 +31,12 @@ pub data RecordText : (columns : ℕ) → (text : List ℕ) → (contents lists 
 pub data LineEnd : List ℕ → Type 0 where
   lf : LineEnd (10 ∷ [])
   crlf : LineEnd (13 ∷ 10 ∷ [])
+
+-- what stands after a field, whether its record goes on, and the text after that: the end, a comma or a line ending
+pub data Separator : (more : Bool) → (text tail : List ℕ) → Type 0 where
+  at-end : Separator false [] []
+  at-comma : {u : List ℕ} → Separator true (44 ∷ []) u
+  at-line : {e : List ℕ} {u : List ℕ} → LineEnd e → Separator false e u
 
 -- records, each with its line ending, which may be missing after a last one that has bytes
 pub data SheetText (columns : ℕ) : (rows : ℕ) → (text : List ℕ) → (contents lists : List (List ℕ)) → Type 0 where

@@ -1,3 +1,4 @@
 pub mod Grammar
 pub mod Contents
 pub mod FirstFault
+pub mod AsWritten
