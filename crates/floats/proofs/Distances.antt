@@ -4,13 +4,17 @@ use Prim.Native.Nat.{ℕ, _+_, _*_, _≤_, _<_}
 use native.Mathlib.Nat.{mul-comm, mul-mul-mul-comm, mul-le-mul-right, le-of-mul-le-mul-right}
 use native.Mathlib.Omega.{arith}
 use lib.Ieee.{Float}
-use Rattle.floats.specs.Fractions.{Fraction, sum, exact, UpTo, Within, Close}
+use Rattle.floats.specs.Fractions.{Fraction, sum, UpTo, Within, Close}
 use Rattle.floats.proofs.Signed.{through}
+
+pub within-self : {k d : ℕ} (a : Fraction) → Within k d a a
+within-self a = record { above = omega arith; below = omega arith }
 
 -- ---- from a to b, and from b to c
 up-to-trans : (i j k u : ℕ) (a b c : Fraction) → 0 < b .per → i + j ≤ k → UpTo i u a b → UpTo j u b c → UpTo k u a c
 up-to-trans i j k u a b c B K h g =
-    let all = through (a .plus * u) (a .less * u) (a .per) (b .plus * u + i * b .per) (b .less * u) (b .per) (c .plus * u + (i + j) * c .per) (c .less * u) (c .per) B (omega arith) (omega arith) in
+    let moved = b .plus * u + i * b .per in
+    let all = through (a .plus * u) (a .less * u) (a .per) moved (b .less * u) (b .per) (c .plus * u + (i + j) * c .per) (c .less * u) (c .per) B (omega arith) (omega arith) in
     omega (arith, mul-le-mul-right (a .per * c .per) K)
 
 pub within-trans : {i j u : ℕ} {a b c : Fraction} (k : ℕ) → 0 < b .per → i + j ≤ k → Within i u a b → Within j u b c → Within k u a c
@@ -55,8 +59,11 @@ up-to-coarser k d j e a b D c h =
     let parts = mul-le-mul-right (a .per * b .per) c in
     le-of-mul-le-mul-right (omega arith) D
 
-within-coarser : {k d : ℕ} {a b : Fraction} (j e : ℕ) → 0 < d → k * e ≤ j * d → Within k d a b → Within j e a b
-within-coarser {k} {d} {a} {b} j e D c h = record { above = up-to-coarser k d j e a b D c (h .above); below = up-to-coarser k d j e b a D c (h .below) }
+within-coarser : {k d j e : ℕ} {a b : Fraction} → 0 < d → k * e ≤ j * d → Within k d a b → Within j e a b
+within-coarser {k} {d} {j} {e} {a} {b} D c h = record { above = up-to-coarser k d j e a b D c (h .above); below = up-to-coarser k d j e b a D c (h .below) }
+
+pub close-coarser : {k d j e : ℕ} {x : Float} {a : Fraction} → 0 < d → k * e ≤ j * d → Close k d x a → Close j e x a
+close-coarser D c h = record { finite = h .finite; near = within-coarser D c (h .near) }
 
 -- ---- one number in two forms
 abbrev pub Same : Fraction → Fraction → Type 0
@@ -69,6 +76,3 @@ within-same u a b e =
 
 pub close-same : {k d : ℕ} {x : Float} {a b : Fraction} → 0 < a .per → Same a b → Close k d x a → Close k d x b
 close-same {k} {d} {x} {a} {b} A e h = record { finite = h .finite; near = within-trans k A (omega arith) (h .near) (within-same d a b e) }
-
-pub close-coarser : {k d : ℕ} {x : Float} {a : Fraction} (j e : ℕ) → 0 < d → k * e ≤ j * d → Close k d x a → Close j e x a
-close-coarser j e D c h = record { finite = h .finite; near = within-coarser j e D c (h .near) }

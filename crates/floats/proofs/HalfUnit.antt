@@ -15,7 +15,7 @@ use lib.Ieee.Exact.{HasValue, units-val, round-exact}
 use lib.Ieee.Nearest.{closest}
 use Rattle.floats.specs.Fractions.{Fraction, signed, nothing, sum, difference, product, quotient, exact, Within, Close}
 use Rattle.floats.specs.Rounding.{OffByHalf, HalfUnit}
-use Rattle.floats.proofs.Distances.{within-trans, within-sum, within-same, close-same}
+use Rattle.floats.proofs.Distances.{within-self, within-trans, within-sum, within-same, close-same}
 use Rattle.floats.proofs.Sum.{Rounded}
 use Rattle.floats.proofs.Operations.{sum-per, quotient-per, add-rounded, sub-rounded, mul-rounded, div-rounded}
 
@@ -82,7 +82,8 @@ counted f s a c d C small fine =
     let digits : k ≤ d = few (size (n / c)) (prec f) d (size-le (n / c) (prec f + d) (div-lt-iff-lt-mul C .1 small)) in
     let both = in-places n c (2 ^ k) (2 ^ d) w (pow-mono digits) (closest-halfway n (c * 2 ^ k) (mul-pos C (pow-pos k))) in
     let top : 2 * 2 ^ (prec f + d) ≤ 2 ^ (low f + suc (emax f)) = omega (arith, two-pow-succ (prec f + d), pow-mono (room (prec f + d) (low f) (emax f) fine)) in
-    let under : w * 2 ^ k < 2 ^ (low f + suc (emax f)) = no-overflow (w * 2 ^ k) n c (2 ^ d) (2 ^ (prec f + d)) (2 ^ (low f + suc (emax f))) (both .0) small (pow-mono (omega arith)) top in
+    let under : w * 2 ^ k < 2 ^ (low f + suc (emax f)) =
+    no-overflow (w * 2 ^ k) n c (2 ^ d) (2 ^ (prec f + d)) (2 ^ (low f + suc (emax f))) (both .0) small (pow-mono (omega arith)) top in
     record {
       count = w * 2 ^ k;
       value = subst (λ (x : Float). HasValue x s (w * 2 ^ k) (2 ^ low f)) (sym (round-is f s a c)) (units-val f s w k under);
@@ -91,43 +92,22 @@ counted f s a c d C small fine =
     }
 
 -- ---- the same as a distance: half of the last place is v / u
-signs-off : (s : Bool) (m d a c v u : ℕ) → m * c * u ≤ a * d * u + v * (d * c) → a * d * u ≤ m * c * u + v * (d * c) → Within v u (signed s m d) (signed s a c)
-signs-off false m d a c v u h g = record { above = omega arith; below = omega arith }
-signs-off true m d a c v u h g = record { above = omega arith; below = omega arith }
+same-sign : (s : Bool) (a c b d v u : ℕ) → a * d * u ≤ b * c * u + v * (c * d) → b * c * u ≤ a * d * u + v * (c * d) → Within v u (signed s a c) (signed s b d)
+same-sign false a c b d v u h g = record { above = omega arith; below = omega arith }
+same-sign true a c b d v u h g = record { above = omega arith; below = omega arith }
 
--- m / d is b / l
-uncounted : (m d b l a c e v u : ℕ) → 0 < l → e * u ≡ v * (l + l) → m * l ≡ b * d → 2 * (b * c) ≤ 2 * (a * l) + e * c → m * c * u ≤ a * d * u + v * (d * c)
-uncounted m d b l a c e v u L E h k =
-    let scaled : m * c * u * (l + l) ≤ (a * d * u + v * (d * c)) * (l + l) =
-    omega (arith, mul-le-mul-right (d * u) k, ap (λ n. n * (c * u)) h, ap (λ n. n * (c * d)) E) in
-    le-of-mul-le-mul-right scaled (omega arith)
-
-uncounted-back : (m d b l a c e v u : ℕ) → 0 < l → e * u ≡ v * (l + l) → m * l ≡ b * d → 2 * (a * l) ≤ 2 * (b * c) + e * c → a * d * u ≤ m * c * u + v * (d * c)
-uncounted-back m d b l a c e v u L E h k =
-    let scaled : a * d * u * (l + l) ≤ (m * c * u + v * (d * c)) * (l + l) =
-    omega (arith, mul-le-mul-right (d * u) k, ap (λ n. n * (c * u)) h, ap (λ n. n * (c * d)) E) in
-    le-of-mul-le-mul-right scaled (omega arith)
+value-close : {v u : ℕ} {b : Fraction} (s : Bool) (a c : ℕ) (x : Float) → 0 < c → HasValue x s a c → Within v u (signed s a c) b → Close v u x b
+value-close s a c nan C h w = absurd h
+value-close s a c (inf t) C h w = absurd h
+value-close {v} {u} s a c (fin t m g) C h w =
+    let cross = ap (λ n. n * u) (h .1) in
+    record { finite = refl; near = rw (h .0) (within-trans v C (omega arith) (same-sign s (m * up g) (down g) a c 0 u (omega arith) (omega arith)) w) }
 
 counted-close : {s : Bool} {a c l e v u : ℕ} (x : Float) → 0 < l → e * u ≡ v * (l + l) → Counted s a c l e x → Close v u x (signed s a c)
-counted-close nan L E k = absurd (k .value)
-counted-close (inf t) L E k = absurd (k .value)
-counted-close {s} {a} {c} {l} {e} {v} {u} (fin t m g) L E k =
-    record {
-      finite = refl;
-      near =
-          rw (k .value .0)
-          (signs-off s (m * up g) (down g) a c v u
-          (uncounted (m * up g) (down g) (k .count) l a c e v u L E (k .value .1) (k .above))
-          (uncounted-back (m * up g) (down g) (k .count) l a c e v u L E (k .value .1) (k .below)));
-    }
-
--- a / c in a float's own digits is off by nothing
-exact-close : {v u : ℕ} (s : Bool) (a c : ℕ) (x : Float) → HasValue x s a c → Close v u x (signed s a c)
-exact-close s a c nan h = absurd h
-exact-close s a c (inf t) h = absurd h
-exact-close {v} {u} s a c (fin t m g) h =
-    let scaled = ap (λ n. n * u) (h .1) in
-    record { finite = refl; near = rw (h .0) (signs-off s (m * up g) (down g) a c v u (omega arith) (omega arith)) }
+counted-close {s} {a} {c} {l} {e} {v} {u} x L place k =
+    let b = k .count in
+    let half = ap (λ n. n * c) place in
+    value-close s b l x L (k .value) (same-sign s b l a c v u (omega (arith, mul-le-mul-right u (k .above))) (omega (arith, mul-le-mul-right u (k .below))))
 
 -- ---- a size of at most 2 ^ (prec + 1) halves, in places of the format
 size-of : (s : Bool) (a c n u : ℕ) → Within n u (signed s a c) nothing → a * u ≤ n * c
@@ -158,10 +138,12 @@ round-off f s a c C m i fine high small =
     rw (pow-add 2 (prec f) d)
     (in-smallest a c (2 ^ i) (2 ^ m) (2 ^ prec f) l (2 ^ d) (pow-pos i) place (rw (← doubled m (prec f)) (size-of s a c (2 ^ (m + suc (prec f))) (2 ^ i) small))) in
     let top : prec f + d ≤ low f + emax f = under (prec f) m (low f) i (emax f) fine high in
+    let twice = pow-mono (room (prec f + d) (low f) (emax f) top) in
     elim (eq-or-lt-of-le units) [
       | inl e ↦
-          exact-close s a c (round f s a c)
-          (round-exact f s a c 1 (prec f + d) C (omega (arith, pow-mono (two f))) (omega (arith, pow-mono (room (prec f + d) (low f) (emax f) top), pow-pos (prec f + d), two-pow-succ (prec f + d))) (omega arith))
+          value-close s a c (round f s a c) C
+          (round-exact f s a c 1 (prec f + d) C (omega (arith, pow-mono (two f))) (omega (arith, twice, pow-pos (prec f + d), two-pow-succ (prec f + d))) (omega arith))
+          (within-self (signed s a c))
       | inr h ↦ counted-close (round f s a c) (pow-pos (low f)) place (counted f s a c d C h top)
     ]
 

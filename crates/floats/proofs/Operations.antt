@@ -10,7 +10,7 @@ use lib.Ieee.Fits.{down-pos}
 use lib.Ieee.Scale.{finite}
 use lib.Ieee.Positive.{num}
 use borrow.Author.Tests.{lt-ltb, le-ltb}
-use Rattle.floats.specs.Fractions.{Fraction, plus, less, signed, sum, opposite, difference, product, inverse, quotient, exact}
+use Rattle.floats.specs.Fractions.{plus, less, signed, sum, opposite, difference, product, inverse, quotient, exact}
 use Rattle.floats.proofs.Signed.{plus-mul, less-mul}
 use Rattle.floats.proofs.Sum.{Rounded, sum-rounded}
 
