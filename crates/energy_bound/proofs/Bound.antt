@@ -1,4 +1,4 @@
--- The bound of specs, for every sequence. Assumes nothing.
+-- The bound of specs, for every sequence: `stringDnaDgDs dna` is what the contract of `string_dna_dg_ds` says that it answers. Assumes nothing.
 use Prim.Native.Nat.{ℕ, suc, _-_, _≤_}
 use mathlib.Core.Path.{_≡_, refl}
 use mathlib.Core.List.{List}
@@ -14,7 +14,7 @@ use Rattle.bases.specs.Bases.{baseAt}
 use Rattle.step_values.specs.Steps.{stepOf, dgDs, start, startHundredths, noEnergy}
 use Rattle.step_values.proofs.StepTables.{step-at-most}
 use Rattle.energy_hundredths.specs.Hundredths.{stepsHundredths}
-use Rattle.utils.specs.Single.{stepsSum, singleEnergy, singleVerdict}
+use Rattle.utils.specs.Single.{stepsSum, singleEnergy, singleVerdict, stringDnaDgDs}
 use Rattle.utils.proofs.Refused.{single-short}
 use Rattle.energy_bound.specs.Bound.{DeltaGBound}
 use Rattle.energy_bound.proofs.Sums.{Running, all-close}
@@ -38,7 +38,7 @@ found : (v : Verdict) (e energy : BaseEnergy) → baseEnergyAnswer v e ≡ Found
 found passes e energy h = cc
 found (refuses number values) e energy h = cc
 
-pub delta-g-bound : (dna : List ℕ) → DeltaGBound dna
+pub delta-g-bound : (dna : List ℕ) → DeltaGBound dna (stringDnaDgDs dna)
 unfolding start
 delta-g-bound dna energy h =
     let few : length dna ≤ 256 = single-short dna (answered (singleVerdict dna) (singleEnergy dna) energy h) in
