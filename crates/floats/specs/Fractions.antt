@@ -26,7 +26,7 @@ abbrev pub signed : (negative : Bool) → (n d : ℕ) → Fraction
 signed negative n d = record { plus = plus negative n; less = less negative n; per = d }
 
 abbrev pub nothing : Fraction
-nothing = signed false 0 1
+nothing = record { plus = 0; less = 0; per = 1 }
 
 -- a + b, −a, a − b, a · b
 abbrev pub sum : Fraction → Fraction → Fraction
