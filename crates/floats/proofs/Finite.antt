@@ -10,8 +10,9 @@ use lib.IntN.{ℤ}
 use lib.Dec.{ltb, leb, eqb, leb·zero, leb·suc-zero}
 use lib.Ieee.{fin, up, down, below, level, lt, le}
 use borrow.Author.Tests.{ltb-true, leb-true, leb-false, eqb-true, lt-ltb, le-ltb, le-leb, eq-eqb}
+use Rattle.floats.specs.Fractions.{plus, less}
 use Rattle.floats.proofs.Tests.{same-test, or-true, or-left, and-left, and-right}
-use Rattle.floats.proofs.Signed.{plus, less, AtMost}
+use Rattle.floats.proofs.Signed.{AtMost}
 
 -- ---- whole numbers with a sign
 below-is : (s : Bool) (a : ℕ) (t : Bool) (b : ℕ) → below s a t b ≡ ltb (plus s a + less t b) (plus t b + less s a)

@@ -7,3 +7,6 @@ pub mod Round
 pub mod Sum
 pub mod Add
 pub mod Least
+pub mod Distances
+pub mod Operations
+pub mod HalfUnit

@@ -6,14 +6,7 @@ use mathlib.Core.Bool.{Bool, true, false, not}
 use Prim.Native.Nat.{ℕ, _+_, _*_, _≤_, _<_}
 use native.Mathlib.Nat.{zero-mul, mul-le-mul-right, le-of-mul-le-mul-right}
 use native.Mathlib.Omega.{arith}
-
-abbrev pub plus : Bool → ℕ → ℕ
-plus false a = a
-plus true a = 0
-
-abbrev pub less : Bool → ℕ → ℕ
-less false a = 0
-less true a = a
+use Rattle.floats.specs.Fractions.{plus, less}
 
 -- ±a is at most ±b
 abbrev pub AtMost : Bool → ℕ → Bool → ℕ → Type 0
@@ -28,7 +21,7 @@ less-mul false a c = sym (zero-mul c)
 less-mul true a c = refl
 
 -- (p - l) / c ≤ (q - k) / d ≤ (r - j) / b
-through : (p l c q k d r j b : ℕ)
+pub through : (p l c q k d r j b : ℕ)
     → 0 < d → p * d + k * c ≤ q * c + l * d → q * b + j * d ≤ r * d + k * b → p * b + j * c ≤ r * c + l * b
 through p l c q k d r j b D h g =
     let scaled : (p * b + j * c) * d ≤ (r * c + l * b) * d = omega (arith, mul-le-mul-right b h, mul-le-mul-right c g) in

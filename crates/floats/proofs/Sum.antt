@@ -7,35 +7,40 @@ use native.Mathlib.Omega.{arith}
 use lib.Dec.{ltb}
 use lib.Ieee.{Float, Format, round, sum, le}
 use borrow.Author.Tests.{ltb-true, ltb-false}
-use Rattle.floats.proofs.Signed.{plus, less, AtMost, plus-mul, less-mul, shifted}
+use Rattle.floats.specs.Fractions.{Fraction, plus, less}
+use Rattle.floats.proofs.Signed.{AtMost, plus-mul, less-mul, shifted}
 use Rattle.floats.proofs.Round.{round-signed-mono}
 
--- x is (p - l) / c, rounded
-pub record Rounded (f : Format) (p l c : ℕ) (x : Float) : Type 0 where
+-- x is a, rounded once
+pub record Rounded (f : Format) (a : Fraction) (x : Float) : Type 0 where
   pub sign : Bool
   pub size : ℕ
-  pub is : x ≡ round f sign size c
-  pub balance : plus sign size + l ≡ less sign size + p
+  pub is : x ≡ round f sign size (a .per)
+  pub balance : plus sign size + a .less ≡ less sign size + a .plus
 
-pub rounded-mono : (f : Format) (p l c q k d : ℕ) {x y : Float}
-    → Rounded f p l c x → Rounded f q k d y → 0 < c → 0 < d → p * d + k * c ≤ q * c + l * d → le x y ≡ true
-rounded-mono f p l c q k d X Y C D h =
-    let x-scaled : (plus (X .sign) (X .size) + l) * d ≡ (less (X .sign) (X .size) + p) * d = ap (λ n. n * d) (X .balance) in
-    let y-scaled : (plus (Y .sign) (Y .size) + k) * c ≡ (less (Y .sign) (Y .size) + q) * c = ap (λ n. n * c) (Y .balance) in
-    rw (X .is, Y .is) (round-signed-mono f (X .sign) (X .size) c (Y .sign) (Y .size) d C D (simp (plus-mul, less-mul) (omega arith)))
+pub rounded-mono : (f : Format) (a b : Fraction) {x y : Float}
+    → Rounded f a x → Rounded f b y → 0 < a .per → 0 < b .per → a .plus * b .per + b .less * a .per ≤ b .plus * a .per + a .less * b .per → le x y ≡ true
+rounded-mono f a b X Y A B h =
+    let x-scaled : (plus (X .sign) (X .size) + a .less) * b .per ≡ (less (X .sign) (X .size) + a .plus) * b .per = ap (λ n. n * b .per) (X .balance) in
+    let y-scaled : (plus (Y .sign) (Y .size) + b .less) * a .per ≡ (less (Y .sign) (Y .size) + b .plus) * a .per = ap (λ n. n * a .per) (Y .balance) in
+    rw (X .is, Y .is) (round-signed-mono f (X .sign) (X .size) (a .per) (Y .sign) (Y .size) (b .per) A B (simp (plus-mul, less-mul) (omega arith)))
 
-pub sum-rounded : (f : Format) (s : Bool) (a : ℕ) (t : Bool) (b c : ℕ) → Rounded f (plus s a + plus t b) (less s a + less t b) c (sum f s a t b c)
+-- ±a / c + ±b / c, before it is rounded
+abbrev pub summed : Bool → ℕ → Bool → ℕ → ℕ → Fraction
+summed s a t b c = record { plus = plus s a + plus t b; less = less s a + less t b; per = c }
+
+pub sum-rounded : (f : Format) (s : Bool) (a : ℕ) (t : Bool) (b c : ℕ) → Rounded f (summed s a t b c) (sum f s a t b c)
 unfolding sum
 sum-rounded f false a false b c = record { sign = false; size = a + b; is = refl; balance = omega arith }
 sum-rounded f true a true b c = record { sign = true; size = a + b; is = refl; balance = omega arith }
 sum-rounded f false a true b c = go (ltb a b) refl
   where
-    go : (x : Bool) → ltb a b ≡ x → Rounded f (a + 0) (0 + b) c (cond x (round f true (b - a) c) (round f false (a - b) c))
+    go : (x : Bool) → ltb a b ≡ x → Rounded f (summed false a true b c) (cond x (round f true (b - a) c) (round f false (a - b) c))
     go true e = record { sign = true; size = b - a; is = refl; balance = omega (arith, ltb-true a b e) }
     go false e = record { sign = false; size = a - b; is = refl; balance = omega (arith, ltb-false a b e) }
 sum-rounded f true a false b c = go (ltb a b) (ltb b a) refl refl
   where
-    go : (x y : Bool) → ltb a b ≡ x → ltb b a ≡ y → Rounded f (0 + b) (a + 0) c (cond x (round f false (b - a) c) (round f y (a - b) c))
+    go : (x y : Bool) → ltb a b ≡ x → ltb b a ≡ y → Rounded f (summed true a false b c) (cond x (round f false (b - a) c) (round f y (a - b) c))
     go true y e d = record { sign = false; size = b - a; is = refl; balance = omega (arith, ltb-true a b e) }
     go false true e d = record { sign = true; size = a - b; is = refl; balance = omega (arith, ltb-false a b e) }
     go false false e d = record { sign = false; size = a - b; is = refl; balance = omega (arith, ltb-false a b e, ltb-false b a d) }
@@ -45,7 +50,7 @@ pub sum-mono : (f : Format) (s : Bool) (a x : ℕ) (t : Bool) (b y : ℕ) (u : B
     → le (sum f s (a * z) u (r * x) (x * z)) (sum f t (b * z) u (r * y) (y * z)) ≡ true
 sum-mono f s a x t b y u r z X Y Z h =
     let apart : plus s a * y + less t b * x ≤ plus t b * x + less s a * y = simp (plus-mul, less-mul) at h in
-    rounded-mono f (plus s (a * z) + plus u (r * x)) (less s (a * z) + less u (r * x)) (x * z) (plus t (b * z) + plus u (r * y)) (less t (b * z) + less u (r * y)) (y * z)
+    rounded-mono f (summed s (a * z) u (r * x) (x * z)) (summed t (b * z) u (r * y) (y * z))
     (sum-rounded f s (a * z) u (r * x) (x * z))
     (sum-rounded f t (b * z) u (r * y) (y * z))
     (mul-pos X Z)

@@ -1,2 +1,4 @@
 pub mod Values
 pub mod Least
+pub mod Fractions
+pub mod Rounding

@@ -1,0 +1,46 @@
+-- The bound of specs, for every sequence: `stringDnaDgDs dna` is what the contract of `string_dna_dg_ds` says that it answers. Assumes nothing.
+use Prim.Native.Nat.{ℕ, suc, _-_, _≤_}
+use mathlib.Core.Path.{_≡_, refl}
+use mathlib.Core.List.{List}
+use native.Mathlib.Omega.{arith}
+use lib.Dec.{lit≤}
+use lib.ListN.{length}
+use Rattle.floats.proofs.Distances.{close-coarser}
+use Rattle.units.specs.declared.BaseEnergy.{BaseEnergy}
+use Rattle.units.specs.declared.BaseEnergyAnswer.the-variants.{Found}
+use Rattle.units.specs.Refusals.{Verdict, passes, refuses}
+use Rattle.units.specs.Answers.{baseEnergyAnswer}
+use Rattle.bases.specs.Bases.{baseAt}
+use Rattle.step_values.specs.Steps.{stepOf, dgDs, start, startHundredths, noEnergy}
+use Rattle.step_values.proofs.StepTables.{step-at-most}
+use Rattle.energy_hundredths.specs.Hundredths.{stepsHundredths}
+use Rattle.utils.specs.Single.{stepsSum, singleEnergy, singleVerdict, stringDnaDgDs}
+use Rattle.utils.proofs.Refused.{single-short}
+use Rattle.energy_bound.specs.Bound.{DeltaGBound}
+use Rattle.energy_bound.proofs.Sums.{Running, all-close}
+
+steps-run : (dna : List ℕ) → Running (λ i. stepOf (baseAt dna i) (baseAt dna (suc i)) .dg) (stepsHundredths dna) (λ n. stepsSum dna n .dg)
+unfolding stepsSum stepsHundredths dgDs noEnergy
+steps-run dna =
+    record {
+      small = λ i. step-at-most (baseAt dna i) (baseAt dna (suc i));
+      none = refl;
+      more = λ i. refl;
+      start = refl;
+      next = λ i. refl;
+    }
+
+answered : (v : Verdict) (e energy : BaseEnergy) → baseEnergyAnswer v e ≡ Found energy → v ≡ passes
+answered passes e energy h = refl
+answered (refuses number values) e energy h = cc
+
+found : (v : Verdict) (e energy : BaseEnergy) → baseEnergyAnswer v e ≡ Found energy → e ≡ energy
+found passes e energy h = cc
+found (refuses number values) e energy h = cc
+
+pub delta-g-bound : (dna : List ℕ) → DeltaGBound dna (stringDnaDgDs dna)
+unfolding start
+delta-g-bound dna energy h =
+    let few : length dna ≤ 256 = single-short dna (answered (singleVerdict dna) (singleEnergy dna) energy h) in
+    rw (← found (singleVerdict dna) (singleEnergy dna) energy h)
+    (close-coarser (lit≤ tt) (lit≤ tt) (all-close (steps-run dna) (length dna - 1) startHundredths (omega arith) (lit≤ tt)))
