@@ -1,9 +1,9 @@
 -- The sets under a choice: the chosen bay has the strand alone, or nothing where it is not legal there without constraints, and every other bay
 -- the set that it had. Assumes nothing.
-use Prim.Native.Nat.{ℕ, _^_, _≤_, _<_}
+use Prim.Native.Nat.{ℕ, _*_, _^_, _≤_, _<_}
 use mathlib.Core.Path.{_≡_, refl, sym, _∙_, ap}
 use mathlib.Core.Bool.{Bool, true, false, cond, _&&_}
-use mathlib.Core.List.{List, []}
+use mathlib.Core.List.{List, [], _∷_}
 use native.Mathlib.Nat.{lt-of-lt-of-le}
 use native.Mathlib.Decide.{ℕ-discrete}
 use native.Mathlib.Omega.{arith}
@@ -11,25 +11,21 @@ use lib.Dec.{eqb}
 use lib.ListN.{length, getD, set, take, length-set}
 use lib.Seq.{ext-getD, take-set-lt, getD-set-same, getD-set-other}
 use borrow.Author.Tests.{eqb-true, eq-eqb, ne-eqb}
+use Rattle.units.specs.Refusals.{refuses}
+use Rattle.entries.proofs.Same.{both}
 use Rattle.sets.specs.Set.{has, word}
 use Rattle.sets.proofs.Words.{word-same, has-word}
 use Rattle.sets.proofs.Operations.{word-none, word-only}
 use Rattle.sdc2d.specs.System.{System}
 use Rattle.bay_lists.specs.Lists.{Constraints, constraints}
+use Rattle.bay_lists.proofs.Restricting.{kept-of}
 use Rattle.legal_at.specs.Legal.{isLegal, setAt}
-use Rattle.legal.specs.Sets.{bays, setsTo}
+use Rattle.scan_order.specs.Scan.{bayAt}
+use Rattle.legal.specs.Sets.{bays, setsTo, firstEmpty, emptyVerdict}
 use Rattle.legal.proofs.Fronts.{length-sets}
-use Rattle.legal.proofs.Seven.{set-of-bay}
+use Rattle.legal.proofs.Seven.{FirstWithout, seven, set-of-bay}
 use Rattle.least_layout.proofs.Meaning.{legal-below}
 use Rattle.choice_price.specs.Choice.{chosenLegal, chosenSets}
-
-pub both : (a b : Bool) → (a && b) ≡ true → (a ≡ true) × (b ≡ true)
-both true true e = (refl, refl)
-both true false e = (refl, e)
-both false b e = (e, absurd (false-is-not-true e))
-  where
-    false-is-not-true : false ≡ true → ⊥
-    false-is-not-true q = let z : _≡_ {A = ℕ} 0 1 = cc in absurd (omega arith)
 
 -- ---- one set of a table changed
 module _ (legal other : ℕ → ℕ → Bool) (n bay w : ℕ) (h : bay < n) (own : w ≡ word (other bay) 64)
@@ -62,8 +58,13 @@ module _ (s : System) (c : Constraints) (chosen strand : ℕ) where
   pub elsewhere : (bay : ℕ) → (bay ≡ chosen → ⊥) → (t : ℕ) → chosenLegal s c chosen strand bay t ≡ isLegal s c bay t
   elsewhere bay n t = ap (λ (b : Bool). cond b (isLegal s (constraints false [] []) bay t && eqb t strand) (isLegal s c bay t)) (ne-eqb bay chosen n)
 
-  pub there-word : {w : ℕ} → w ≡ word (λ t. may t && eqb t strand) 64 → w ≡ word (chosenLegal s c chosen strand chosen) 64
-  there-word e = e ∙ word-same (λ t. may t && eqb t strand) (chosenLegal s c chosen strand chosen) 64 (λ t h. sym (there t))
+  -- the set of the chosen bay as the code makes it: what is legal without constraints, and the strand alone, cut
+  pub there-word : {a b w : ℕ} → a ≡ word may 64 → b ≡ word (λ t. eqb t strand) 64 → w ≡ word (λ t. has a t && has b t) 64
+      → w ≡ word (chosenLegal s c chosen strand chosen) 64
+  there-word {a} {b} e f made =
+      kept-of may (has b) e made
+      ∙ word-same (λ t. may t && has b t) (chosenLegal s c chosen strand chosen) 64
+      (λ t h. ap (λ (x : Bool). may t && x) (ap (λ (x : ℕ). has x t) f ∙ has-word (λ u. eqb u strand) 64 t h) ∙ sym (there t))
 
   -- what may lie on a bay is a strand of the system
   pub chosen-below : (bay t : ℕ) → chosenLegal s c chosen strand bay t ≡ true → t < s .sizes .strands
@@ -105,10 +106,11 @@ module _ (s : System) (c : Constraints) (chosen strand : ℕ) where
     pub nothing-left : may strand ≡ false → getD (chosenSets s c chosen strand) chosen 0 ≡ 0
     nothing-left e = set-is false e ∙ word-none 64
 
--- the chosen bay's word as the code makes it
-pub cut-word : (p : ℕ → Bool) (strand : ℕ) {r a b : ℕ} → a ≡ word p 64 → b ≡ word (λ t. eqb t strand) 64 → r ≡ word (λ t. has a t && has b t) 64
-    → r ≡ word (λ t. p t && eqb t strand) 64
-cut-word p strand {r} {a} {b} e f g =
-    g ∙ word-same (λ t. has a t && has b t) (λ t. p t && eqb t strand) 64
-    (λ t h. ap (λ (x : ℕ). has x t && has b t) e ∙ ap (λ (x : ℕ). has (word p 64) t && has x t) f
-    ∙ ap (λ (x : Bool). x && has (word (λ u. eqb u strand) 64) t) (has-word p 64 t h) ∙ ap (λ (x : Bool). p t && x) (has-word (λ u. eqb u strand) 64 t h))
+    -- then 7 is refused, with the first bay in scan order that has no strand left
+    pub seven-there : may strand ≡ false
+        → let sets = chosenSets s c chosen strand in
+        let rows = s .sizes .rows in
+        let cols = s .sizes .cols in
+        let k = firstEmpty rows cols sets 0 (rows * cols) in
+        (emptyVerdict rows cols sets ≡ refuses 7 (bayAt rows cols k ∷ [])) × FirstWithout rows cols sets 0 k
+    seven-there e = seven (s .sizes .rows) (s .sizes .cols) (chosenSets s c chosen strand) chosen inside (nothing-left e)

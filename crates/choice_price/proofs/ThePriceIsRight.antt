@@ -13,6 +13,7 @@ use Rattle.units.specs.declared.EnergyAnswer.the-variants.{Energy}
 use Rattle.units.specs.Answers.{energyAnswer}
 use Rattle.units.specs.Refusals.{Verdict, passes, refuses, _▷_, ifPasses}
 use Rattle.units.proofs.Verdicts.{no-fault, first-passes, rest-passes}
+use Rattle.entries.proofs.Same.{both}
 use Rattle.sdc2d.specs.System.{System, systemVerdict}
 use Rattle.sdc2d.proofs.Fine.{fine}
 use Rattle.bay_lists.specs.Lists.{Constraints, constraints}
@@ -29,7 +30,7 @@ use Rattle.choice_price.specs.Choice.{chosenLegal, chosenSets}
 use Rattle.choice_price.specs.Price.{choiceVerdict, earlyVerdict, sumVerdict, priceVerdict, priceAnswer, priceLayout}
 use Rattle.choice_price.specs.Chosen.{ChosenLayout, PriceTheorem}
 use Rattle.choice_price.proofs.Choices.{inside}
-use Rattle.choice_price.proofs.ChosenSets.{both, there, elsewhere, chosen-below}
+use Rattle.choice_price.proofs.ChosenSets.{there, elsewhere, chosen-below}
 
 -- a layout may lie there under the choice exactly where it is one of the choice's
 module _ (s : System) (c : Constraints) (bay strand : ℕ) (on : bay < bays (s .sizes)) where

@@ -1,18 +1,14 @@
 // The price of a choice: the least energy of a layout that has a given strand on a given bay.
 ghost use mathlib.Core.Path.{_≡_};
-ghost use mathlib.Core.Bool.{true, false, _&&_};
+ghost use mathlib.Core.Bool.{true};
 ghost use mathlib.Core.List.{[]};
 ghost use Prim.Native.Nat.{_*_, _≤_, _<_};
-ghost use lib.Dec.{eqb};
 ghost use lib.ListN.{length, take};
 ghost use Rattle.units.specs.Refusals.{check, passes, Prints};
 ghost use Rattle.units.specs.Answers.{energyRefusal};
-ghost use Rattle.sets.specs.Set.{word};
 ghost use Rattle.sdc2d.specs.System.{system, systemVerdict};
-ghost use Rattle.bonds.specs.Readable.{Readable};
 ghost use Rattle.bay_lists.specs.Lists.{constraints, offsetsShaped};
-ghost use Rattle.legal_at.specs.Legal.{isLegal};
-ghost use Rattle.legal_at.specs.OnGrid.{OnGrid, Grid};
+ghost use Rattle.legal_at.specs.OnGrid.{Grid};
 ghost use Rattle.legal.specs.Sets.{setsTo, emptyVerdict};
 ghost use Rattle.sets_run.specs.Finished.{FinishedBy};
 ghost use Rattle.choice_price.specs.Choice.{chosenLegal, chosenSets};
@@ -54,38 +50,8 @@ fn check_choice(
     Check::Passed
 }
 
-// The set of the chosen bay: the strand alone, where it is legal there without constraints, else no strand.
-fn chosen_set(
-    z: Sizes,
-    strand_glues: &[u32],
-    scaffold: &[u32],
-    delta_g: &[f64],
-    entropy: &[f64],
-    seeds: &[u32],
-    bay: usize,
-    strand: u32,
-) -> u64
-    requires { ⌜ Readable (z .strands) (z .glues) (now «strand_glues») (now «delta_g») (now entropy) ⌝ }
-    requires { ⌜ OnGrid z (now scaffold) (now seeds) bay ⌝ }
-    ensures { λ r. let s = system z (now («strand_glues» .entry)) (now (scaffold .entry)) (now («delta_g» .entry)) (now (entropy .entry)) [] (now (seeds .entry)) in
-        ⌜ r ≡ word (λ t. isLegal s (constraints false [] []) bay t && eqb t strand) 64 ⌝ }
-{
-    let permitted = constrained_allowed_tiles_at(
-        z,
-        strand_glues,
-        scaffold,
-        delta_g,
-        entropy,
-        seeds,
-        false,
-        &[],
-        &[],
-        bay,
-    );
-    sets::both(permitted, sets::only(strand))
-}
-
-// Writes the sets of all bays under the choice to the front of a table, and refuses 7.
+// Writes the sets of all bays under the choice to the front of a table, and refuses 7: the chosen bay has its set as it is without its list, cut to the
+// strand.
 fn chosen_sets(
     z: Sizes,
     strand_glues: &[u32],
@@ -124,16 +90,20 @@ fn chosen_sets(
         tiles,
         sets,
     );
-    sets[bay] = chosen_set(
+    let permitted = constrained_allowed_tiles_at(
         z,
         strand_glues,
         scaffold,
         delta_g,
         entropy,
         seeds,
+        false,
+        offsets,
+        tiles,
         bay,
-        strand,
     );
+    let alone = sets::only(strand);
+    sets[bay] = sets::both(permitted, alone);
     check_empty(z.rows, z.cols, &sets[..scaffold.len()])
 }
 

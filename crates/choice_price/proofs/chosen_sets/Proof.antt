@@ -1,8 +1,10 @@
 -- `choice_price::chosen_sets` meets its contract: the sets are written, one is written anew, and they are searched. Assumes nothing.
-use Prim.Native.Nat.{ℕ}
+use Prim.Native.Nat.{ℕ, _≤_}
 use mathlib.Core.Path.{_≡_, sym, _∙_, ap}
 use mathlib.Core.Bool.{Bool}
 use mathlib.Core.List.{List, []}
+use native.Mathlib.Nat.{mul-le-mul}
+use native.Mathlib.Omega.{arith}
 use lib.ListN.{length, set, take}
 use denote.Ref.{now}
 use borrow.Author.Needs.{needs}
@@ -32,58 +34,79 @@ may s = chosenLegal (asked s) (lists s) (s .args .bay) (s .args .strand)
 abbrev count : tie.Start → ℕ
 count s = length (now (s .args .scaffold))
 
--- the table with the chosen bay's set in it
-abbrev table : (c : tie.After-chosen-set) → List ℕ
-table c = set (c .before .before .before .fill-sets .last .1 .1 .1 .1 .1 .1 .1 .1 .1 .0) (c .before .before .before .before .before .before .before .before .before .before .before .before .before .args .bay) (c .chosen-set .result)
+-- the table as it was filled, and with the chosen bay's set in it
+abbrev filled : (c : tie.After-both) → List ℕ
+filled c = c .before .before .before .before .before .fill-sets .last .1 .1 .1 .1 .1 .1 .1 .1 .1 .0
 
-front-is : (c : tie.After-chosen-set) → let s = c .before .before .before .before .before .before .before .before .before .before .before .before .before in take (count s) (table c) ≡ setsTo (may s) (count s)
+abbrev table : (c : tie.After-both) → List ℕ
+table c = set (filled c) (c .before .before .before .before .before .before .before .before .before .before .before .before .before .before .before .args .bay) (c .both .result)
+
+front-is : (c : tie.After-both) → let s = c .before .before .before .before .before .before .before .before .before .before .before .before .before .before .before in take (count s) (table c) ≡ setsTo (may s) (count s)
 front-is c =
-    let filled = c .before .before .before in
-    let s = c .before .before .before .before .before .before .before .before .before .before .before .before .before in
+    let alone = c .before in
+    let free = alone .before in
+    let s = c .before .before .before .before .before .before .before .before .before .before .before .before .before .before .before in
     let a = s .args in
-    table-changed (isLegal (asked s) (lists s)) (may s) (count s) (a .bay) (c .chosen-set .result) (s .pre .1 .1 .1 .1)
-    (there-word (asked s) (lists s) (a .bay) (a .strand) (c .chosen-set .ensures)) (elsewhere (asked s) (lists s) (a .bay) (a .strand))
-    (filled .fill-sets .last .1 .1 .1 .1 .1 .1 .1 .1 .1 .0) (filled .fill-sets .ensures .0)
+    table-changed (isLegal (asked s) (lists s)) (may s) (count s) (a .bay) (c .both .result) (s .pre .1 .1 .1 .1)
+    (there-word (asked s) (lists s) (a .bay) (a .strand) (free .constrained-allowed-tiles-at .ensures) (alone .only .ensures) (c .both .ensures))
+    (elsewhere (asked s) (lists s) (a .bay) (a .strand)) (filled c) (c .before .before .before .before .before .fill-sets .ensures .0)
 
-long : (c : tie.After-chosen-set) → let s = c .before .before .before .before .before .before .before .before .before .before .before .before .before in length (take (count s) (table c)) ≡ count s
-long c = let s = c .before .before .before .before .before .before .before .before .before .before .before .before .before in ap length (front-is c) ∙ length-sets (may s) (count s)
+long : (c : tie.After-both) → let s = c .before .before .before .before .before .before .before .before .before .before .before .before .before .before .before in length (take (count s) (table c)) ≡ count s
+long c = let s = c .before .before .before .before .before .before .before .before .before .before .before .before .before .before .before in ap length (front-is c) ∙ length-sets (may s) (count s)
 
 fill-sets-requires : tie.Need-fill-sets-requires
 fill-sets-requires c κs = search needs
 
-chosen-set-requires : tie.Need-chosen-set-requires
-chosen-set-requires c κs = let s = c .before .before .before .before .before .before .before .before .before .before .before .before in (s .pre .0 .readable, s .pre .0 .on-grid (s .args .bay) (s .pre .1 .1 .1 .1))
+constrained-allowed-tiles-at-requires : tie.Need-constrained-allowed-tiles-at-requires
+constrained-allowed-tiles-at-requires c κs =
+    let s = c .before .before .before .before .before .before .before .before .before .before .before .before in
+    (s .pre .0 .readable, (s .pre .0 .on-grid (s .args .bay) (s .pre .1 .1 .1 .1), search needs))
+
+only-requires : tie.Need-only-requires
+only-requires c κs = search needs
+
+both-requires : tie.Need-both-requires
+both-requires c κs = search needs
 
 mul-sets : tie.Need-mul-sets
-mul-sets c = search needs
+mul-sets c =
+    let s = c .before .before .before .before .before .before .before .before .before .before .before .before .before .before .before in
+    let sizes = s .pre .1 .1 .0 in
+    omega (arith, mul-le-mul (sizes .0) (sizes .1), sizes .2, s .pre .1 .1 .1 .1)
 
 slice-write-sets : tie.Need-slice-write-sets
-slice-write-sets c = search needs
+slice-write-sets c =
+    let s = c .before .before .before .before .before .before .before .before .before .before .before .before .before .before .before in
+    let legal = isLegal (asked s) (lists s) in
+    let room : count s ≤ length (filled c) = front-fits (count s) (filled c) (c .before .before .before .before .before .fill-sets .ensures) (length-sets legal (count s)) in
+    omega (arith, room, s .pre .1 .1 .1 .1)
 
 slice-reshare-prefix-check-empty : tie.Need-slice-reshare-prefix-check-empty
-slice-reshare-prefix-check-empty c = let s = c .before .before .before .before .before .before .before .before .before .before .before .before .before in front-fits (count s) (table c) (front-is c) (length-sets (may s) (count s))
+slice-reshare-prefix-check-empty c = let s = c .before .before .before .before .before .before .before .before .before .before .before .before .before .before .before in front-fits (count s) (table c) (front-is c) (length-sets (may s) (count s))
 
 slice-aggregate-check-empty : tie.Need-slice-aggregate-check-empty
 slice-aggregate-check-empty c = sym (long (c .before))
 
 check-empty-requires : tie.Need-check-empty-requires
-check-empty-requires c κs = let asks = c .before .before .before .before .before .before .before .before .before .before .before .before .before .before .pre .1 .1 .0 in (asks .0, asks .1, long (c .before) ∙ asks .2)
+check-empty-requires c κs = let sizes = c .before .before .before .before .before .before .before .before .before .before .before .before .before .before .before .before .pre .1 .1 .0 in (sizes .0, sizes .1, long (c .before) ∙ sizes .2)
 
 same-length : tie.Need-same-length
 same-length c = search needs
 
 returns : tie.Need-returns
 returns c =
-    let chosen = c .before .before in
-    let z = c .before .before .before .before .before .before .before .before .before .before .before .before .before .before .before .args .z in
-    (front-is chosen, c .check-empty .ensures ∙ ap (λ (sets : List ℕ). check (emptyVerdict (z .rows) (z .cols) sets)) (front-is chosen))
+    let written = c .before .before in
+    let z = c .before .before .before .before .before .before .before .before .before .before .before .before .before .before .before .before .before .args .z in
+    (front-is written, c .check-empty .ensures ∙ ap (λ (sets : List ℕ). check (emptyVerdict (z .rows) (z .cols) sets)) (front-is written))
 
 pub chosen-sets-spec : {M : Type 1} → statement M
 chosen-sets-spec =
     tie.close
     (tie.spec
     fill-sets-requires
-    chosen-set-requires
+    constrained-allowed-tiles-at-requires
+    only-requires
+    both-requires
     mul-sets
     slice-write-sets
     slice-reshare-prefix-check-empty
