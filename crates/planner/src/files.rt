@@ -1,6 +1,7 @@
-// The six sheets of a folder, each read whole and tested to be text.
+// The six sheets of a folder, each read whole, and all but the register's tested to be text.
 use crate::messages::begin;
 use crate::messages::finish;
+use crate::messages::finish_stray;
 use crate::messages::put_with;
 use crate::messages::say;
 use answer_texts::put_text;
@@ -46,6 +47,24 @@ fn say_large(folder: &[u8], name: &[u8], room: usize) {
     );
 }
 
+// Says that the reading of a file failed before its end.
+fn say_broken(folder: &[u8], name: &[u8], bytes: usize) {
+    let mut line = [0u8; 8192];
+    let at = begin(&mut line, folder);
+    let next = put_text(&mut line, at, name);
+    let end = put_with(
+        &mut line,
+        next,
+        b" cannot be read to its end: a read failed after ",
+        bytes,
+    );
+    finish(
+        &mut line,
+        end,
+        b" bytes, and a part is never taken for the whole; see that it is a plain file, and copy it anew",
+    );
+}
+
 // Says that a file has no bytes.
 fn say_empty(folder: &[u8], name: &[u8]) {
     let mut line = [0u8; 8192];
@@ -54,7 +73,7 @@ fn say_empty(folder: &[u8], name: &[u8]) {
     finish(
         &mut line,
         next,
-        b" is empty or cannot be read; save it again (no seeds are the word none, and no restrictions are a blank field for each bay)",
+        b" is empty; save it again (no seeds are the word none)",
     );
 }
 
@@ -63,22 +82,11 @@ fn say_no_text(folder: &[u8], name: &[u8], place: usize) {
     let mut line = [0u8; 8192];
     let at = begin(&mut line, folder);
     let next = put_text(&mut line, at, name);
-    let end = put_with(&mut line, next, b" is no text: the byte at place ", place);
-    finish(
-        &mut line,
-        end,
-        b", counted from 0, is no part of UTF-8 text without control characters; save the sheet as comma-separated values",
-    );
+    finish_stray(&mut line, next, place);
 }
 
-// Whether a file could be read, fits its room, has bytes and is text; where not, a sentence says so.
-pub(crate) fn is_sheet(
-    folder: &[u8],
-    name: &[u8],
-    read: FileRead,
-    room: usize,
-    text: &[u8],
-) -> bool {
+// Whether a file could be opened, fits its room and was read to its end; where not, a sentence says so.
+pub(crate) fn is_whole(folder: &[u8], name: &[u8], read: FileRead, room: usize) -> bool {
     if !read.opened {
         say_missing(folder, name);
         return false;
@@ -87,7 +95,25 @@ pub(crate) fn is_sheet(
         say_large(folder, name, room);
         return false;
     }
-    if read.bytes == 0 {
+    if !read.whole {
+        say_broken(folder, name, read.bytes);
+        return false;
+    }
+    true
+}
+
+// Whether a file is whole, has bytes and is text; where not, a sentence says so.
+pub(crate) fn is_sheet(
+    folder: &[u8],
+    name: &[u8],
+    read: FileRead,
+    room: usize,
+    text: &[u8],
+) -> bool {
+    if !is_whole(folder, name, read, room) {
+        return false;
+    }
+    if text.len() == 0 {
         say_empty(folder, name);
         return false;
     }

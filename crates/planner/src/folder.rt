@@ -1,6 +1,7 @@
 // A folder: its six sheets are read, and then planned.
 use crate::files::is_folder_there;
 use crate::files::is_sheet;
+use crate::files::is_whole;
 use crate::tables::plan_sheets;
 use crate::wish::Wish;
 use plain_text::without_mark;
@@ -80,7 +81,7 @@ fn read_temperature(
     )
 }
 
-// The register's sheet is taken as it is: a byte order mark is an error of its first field.
+// The register's sheet is taken as it is: that it is empty or no text, or that a byte order mark stands in front, is told as an error of a field.
 fn read_constraints(
     folder: &[u8],
     wish: Wish,
@@ -92,8 +93,7 @@ fn read_constraints(
 ) -> bool {
     let mut room = [0u8; 262144];
     let read = read_file(folder, b"constraints.csv", &mut room);
-    let text = first_bytes(&room, read.bytes);
-    if !is_sheet(folder, b"constraints.csv", read, 262144, text) {
+    if !is_whole(folder, b"constraints.csv", read, 262144) {
         return false;
     }
     plan_sheets(
@@ -104,6 +104,6 @@ fn read_constraints(
         keys,
         seeds,
         temperature,
-        text,
+        first_bytes(&room, read.bytes),
     )
 }

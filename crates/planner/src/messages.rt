@@ -18,6 +18,16 @@ pub(crate) fn finish(line: &mut [u8], at: usize, rest: &[u8]) {
     io::write_all(2, first_bytes(line, end));
 }
 
+// Writes a sentence about a sheet that is no text, by the place of its first byte that is no part of one.
+pub(crate) fn finish_stray(line: &mut [u8], at: usize, place: usize) {
+    let end = put_with(line, at, b" is no text: the byte at place ", place);
+    finish(
+        line,
+        end,
+        b", counted from 0, is no part of UTF-8 text without control characters; save the sheet as comma-separated values",
+    );
+}
+
 // Writes a sentence that is one text.
 pub(crate) fn say(folder: &[u8], text: &[u8]) {
     let mut line = [0u8; 8192];

@@ -2,11 +2,13 @@
 use crate::messages::after;
 use crate::messages::begin;
 use crate::messages::finish;
+use crate::messages::finish_stray;
 use crate::messages::put_bay;
 use crate::messages::put_field;
 use crate::messages::put_with;
 use answer_texts::put_text;
 use bay_names::front;
+use plain_text::first_stray;
 use plain_text::without_mark;
 use sheet_names::put_content;
 use sheet_records::place_after;
@@ -234,32 +236,79 @@ fn field_place(sheet: &[u8], seed: usize, column: usize) -> usize {
     place_after(sheet, at, column)
 }
 
-// Says what is wrong with the register's sheet.
+// Says what is wrong with the register's sheet: which field is none, and what it is that makes the whole sheet none.
 pub(crate) fn say_sheet(folder: &[u8], r: Refusal, rows: usize, cols: usize, lists: &[u8]) {
     if r.number != 19 {
-        return say_number(
-            folder,
-            r,
-            b"constraints.csv has more than 65536 numbers, the planner's room; use the library",
-        );
+        return say_long(folder, r);
+    }
+    if lists.len() == 0 {
+        return say_no_lists(folder, r);
+    }
+    let stray = first_stray(lists);
+    if stray < lists.len() {
+        return say_no_text(folder, r, stray);
     }
     if without_mark(lists).len() != lists.len() {
-        return say_number(
-            folder,
-            r,
-            b"constraints.csv, line 1, field 1: the sheet begins with a byte order mark, which is no number; save it without one",
-        );
+        return say_mark(folder, r);
     }
-    say_cell(folder, r.first, r.second, rows, cols);
+    say_cell(folder, r, rows, cols);
+}
+
+// Says that the lists have more numbers than there is room for.
+fn say_long(folder: &[u8], r: Refusal) {
+    let mut line = [0u8; 8192];
+    let at = begin(&mut line, folder);
+    let number = put_with(&mut line, at, b"refusal ", r.number as usize);
+    let end = put_with(&mut line, number, b": constraints.csv has ", r.first);
+    finish(
+        &mut line,
+        end,
+        b" numbers in its lists, and the planner has room for 65536; use the library",
+    );
+}
+
+// The front of a sentence about a field of the register's sheet.
+fn begin_list(line: &mut [u8], folder: &[u8], r: Refusal) -> usize {
+    let at = begin(line, folder);
+    let number = put_text(line, at, b"refusal 19: ");
+    put_field(line, number, b"constraints.csv", r.first, r.second)
+}
+
+// Says that the sheet has no bytes.
+fn say_no_lists(folder: &[u8], r: Refusal) {
+    let mut line = [0u8; 8192];
+    let at = begin_list(&mut line, folder, r);
+    finish(
+        &mut line,
+        at,
+        b"the sheet is empty; save it again (no restrictions are a blank field for each bay)",
+    );
+}
+
+// Says that the sheet is no text.
+fn say_no_text(folder: &[u8], r: Refusal, place: usize) {
+    let mut line = [0u8; 8192];
+    let at = begin_list(&mut line, folder, r);
+    let next = put_text(&mut line, at, b"the sheet");
+    finish_stray(&mut line, next, place);
+}
+
+// Says that a byte order mark stands in front of the sheet.
+fn say_mark(folder: &[u8], r: Refusal) {
+    let mut line = [0u8; 8192];
+    let at = begin_list(&mut line, folder, r);
+    finish(
+        &mut line,
+        at,
+        b"the sheet begins with a byte order mark, which is no number; save it without one",
+    );
 }
 
 // Says which field is no list, or is missing or surplus.
-fn say_cell(folder: &[u8], row: usize, field: usize, rows: usize, cols: usize) {
+fn say_cell(folder: &[u8], r: Refusal, rows: usize, cols: usize) {
     let mut line = [0u8; 8192];
-    let at = begin(&mut line, folder);
-    let number = put_text(&mut line, at, b"refusal 19: ");
-    let place = put_field(&mut line, number, b"constraints.csv", row, field);
-    let high = put_with(&mut line, place, b"the sheet has ", rows);
+    let at = begin_list(&mut line, folder, r);
+    let high = put_with(&mut line, at, b"the sheet has ", rows);
     let wide = put_with(&mut line, high, b" rows of ", cols);
     finish(
         &mut line,

@@ -1,16 +1,25 @@
 // The files of a folder, each read whole into a lent slice.
+ghost use Prim.Native.Nat.{_≤_};
 ghost use mathlib.Core.Path.{_≡_};
 ghost use lib.ListN.{length};
 ghost use Rattle.io.specs.Counts.{Counts};
 ghost use Rattle.answer_texts.specs.Puts.{Put};
 ghost use Rattle.sheet_files.specs.Paths.{pathOf};
+ghost use Rattle.sheet_files.specs.Rooms.{LeavesRoom};
 use answer_texts::put_text;
 
-// What became of a file: whether it could be opened, and how many bytes it has. As many bytes as the room has may be the
-// front of a longer file.
+// What became of a file: whether it could be opened, whether it was read to its end, and how many bytes were read. Where these
+// are as many as the room has, the file may be longer.
 pub struct FileRead {
     pub opened: bool,
+    pub whole: bool,
     pub bytes: usize,
+}
+
+// What one read gave: how many bytes, and whether it failed. No bytes of a read that did not fail are the end of the file.
+struct Part {
+    failed: bool,
+    bytes: usize,
 }
 
 // Puts the path of a file in a folder at the start of a lent slice, and answers where it ends.
@@ -22,28 +31,63 @@ pub fn put_path(folder: &[u8], name: &[u8], path: &mut [u8]) -> usize
     put_text(path, from, name)
 }
 
+// Reads once.
+fn read_part(file: i32, room: &mut [u8]) -> Part
+    ensures { λ r. ⌜ r .bytes ≤ length (now (room .entry)) ⌝ }
+{
+    let got = libc::read(file, room);
+    Part {
+        failed: got < 0,
+        bytes: io::count(got, room),
+    }
+}
+
+// Reads a file to its end, or until the room is full or a read fails.
+fn read_open(file: i32, room: &mut [u8]) -> FileRead
+    ensures { λ r. ⌜ Counts (r .bytes) (now (room .exit)) ⌝ }
+    ensures { λ r. ⌜ LeavesRoom (r .whole) (r .bytes) (now (room .exit)) ⌝ }
+{
+    let mut done = 0;
+    while done < room.len() {
+        let more = read_part(file, &mut room[done..]);
+        if more.bytes == 0 {
+            return FileRead {
+                opened: true,
+                whole: !more.failed,
+                bytes: done,
+            };
+        }
+        done += more.bytes;
+    }
+    FileRead {
+        opened: true,
+        whole: false,
+        bytes: done,
+    }
+}
+
 // Reads the file of a path.
 fn read_path(path: &[u8], room: &mut [u8]) -> FileRead
     ensures { λ r. ⌜ Counts (r .bytes) (now (room .exit)) ⌝ }
+    ensures { λ r. ⌜ LeavesRoom (r .whole) (r .bytes) (now (room .exit)) ⌝ }
 {
     let file = os::open_read(path);
     if file < 0 {
         return FileRead {
             opened: false,
+            whole: false,
             bytes: 0,
         };
     }
-    let bytes = io::read_full(file, room);
+    let read = read_open(file, room);
     libc::close(file);
-    FileRead {
-        opened: true,
-        bytes: bytes,
-    }
+    read
 }
 
 // Reads a file of a folder. A path of 4,096 bytes or more names no file.
 pub fn read_file(folder: &[u8], name: &[u8], room: &mut [u8]) -> FileRead
     ensures { λ r. ⌜ Counts (r .bytes) (now (room .exit)) ⌝ }
+    ensures { λ r. ⌜ LeavesRoom (r .whole) (r .bytes) (now (room .exit)) ⌝ }
 {
     let mut path = io::buffer();
     let end = put_path(folder, name, &mut path);
