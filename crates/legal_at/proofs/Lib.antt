@@ -4,3 +4,4 @@ pub mod BaseSet
 pub mod Sound
 pub mod StrandBelow
 pub mod ChemistsQuestion
+pub mod Worked

@@ -21,10 +21,10 @@ use Rattle.beta_energies.specs.Energies.{bayEnergy, edgeEnergy, noEnergy}
 use Rattle.bay_lists.specs.Lists.{names}
 use Rattle.legal_at.specs.Legal.{seedAt}
 use Rattle.legal.specs.Sets.{setsTo, firstEmpty}
-use Rattle.ledger_rows.specs.Blocks.{tab, flat, size, leavers, newest, lower, lowest, energies, notes, need}
+use Rattle.ledger_rows.specs.Blocks.{tab, flat, size, leavers, newest, lower, lowest, energies, notes, need, energyTable}
 use Rattle.ledger_rows.specs.Trace.{below, trace, answerRow}
 use Rattle.starred.specs.Cases.{Case, layouts, starred}
 
 pub starred-cases-hold : map (λ (c : Case). c .given) starred ≡ map (λ (c : Case). c .printed) starred
-unfolding layouts Sequences·starred decimal round ofBits finite gasConstant firstFailing baseOf isLetter Steps·noEnergy stepOf dgDs calcPenalty penaltyTable loopPenalty upTo lengths loopTable windowsSum stepsHundredths endTerm has word members offsetsFrom isLog firstBadSeed bayEnergy edgeEnergy noEnergy names seedAt setsTo firstEmpty tab flat size leavers newest lower lowest energies notes need below trace answerRow add sub mul div lt le ne
+unfolding layouts Sequences·starred decimal round ofBits finite gasConstant firstFailing baseOf isLetter Steps·noEnergy stepOf dgDs calcPenalty penaltyTable loopPenalty upTo lengths loopTable windowsSum stepsHundredths endTerm has word members offsetsFrom isLog firstBadSeed bayEnergy edgeEnergy noEnergy names seedAt setsTo firstEmpty tab flat size leavers newest lower lowest energies notes need energyTable below trace answerRow add sub mul div lt le ne
 starred-cases-hold = refl

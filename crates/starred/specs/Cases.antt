@@ -2,7 +2,8 @@
 use Prim.Native.Nat.{ℕ, _*_}
 use mathlib.Core.Bool.{Bool, true, false}
 use mathlib.Core.List.{List, [], _∷_, _++_, map}
-use lib.Ieee.{Float, inf, binary64, ofBits}
+use lib.IntN.{pos}
+use lib.Ieee.{Float, nan, inf, fin, binary64, ofBits}
 use lib.ListN.{replicate}
 use Rattle.units.specs.declared.EnergyAnswer.{EnergyAnswer}
 use Rattle.units.specs.declared.EnergyAnswer.the-variants.{Energy, Refused}
@@ -12,13 +13,14 @@ use Rattle.utils.specs.Starred.{Outcome as Sequences·Outcome, Case as Sequence
 use Rattle.sdc2d.specs.System.{System, system}
 use Rattle.bay_lists.specs.Lists.{Constraints, constraints}
 use Rattle.legal_at.specs.Legal.{isLegal}
-use Rattle.sdc2d_thermo.specs.Run.{mfeAnswer}
-use Rattle.least_layout.specs.Run.{leastLayout, runNeed}
+use Rattle.least_layout.specs.Run.{runNeed}
+use Rattle.sdc2d_thermo.specs.Run.{mfeAnswer, layoutAfter, energiesAfter}
 
 -- what a case is about
 pub data Outcome : Type 0 where
   sequence : Sequences·Outcome → Outcome
   laid : List ℕ → Outcome
+  held : List Float → Outcome
   answered : EnergyAnswer → Outcome
   legal : Bool → Outcome
   needs : ℕ → Outcome
@@ -52,21 +54,32 @@ abbrev listed : List ℕ → Constraints
 listed [] = constraints true (0 ∷ 0 ∷ []) []
 listed (tile ∷ tiles) = constraints true (0 ∷ 1 ∷ []) (tile ∷ [])
 
--- the answer where the lent slices fit one bay with two rows
+-- the answer where the lent slices fit one bay with two rows, and what the call leaves in the lent layout, which held 7
 abbrev least : System → Constraints → Outcome
 least s c = answered (mfeAnswer s c 1 2 2)
 
+abbrev left : System → Constraints → Outcome
+left s c = laid (layoutAfter s c 2 2 (7 ∷ []))
+
+-- what it leaves in the lent table of energies, one for strand 0 and one for strand 1
+abbrev ledger : System → Constraints → Outcome
+ledger s c = held (energiesAfter s c 1 2 (nan ∷ nan ∷ []))
+
 unfoldable pub layouts : List Case
 layouts =
-    case (laid (leastLayout (one (plus 1 1) (plus 0 1) (plus 0 1) []) free)) (laid (0 ∷ []))
+    case (left (one (plus 1 1) (plus 0 1) (plus 0 1) []) free) (laid (0 ∷ []))
     ∷ case (least (one (plus 1 1) (plus 0 1) (plus 0 1) []) free) (answered (Energy (ofBits binary64 0)))
-    ∷ case (laid (leastLayout (one (minus 1 1) (plus 0 1) (plus 0 1) []) free)) (laid (1 ∷ []))
+    ∷ case (left (one (minus 1 1) (plus 0 1) (plus 0 1) []) free) (laid (1 ∷ []))
+    ∷ case (least (one (minus 1 1) (plus 0 1) (plus 0 1) []) free) (answered (Energy (fin true 1 (pos 0))))
     ∷ case (legal (isLegal (one (plus 0 1) (plus 1 1) (plus 0 1) []) free 0 1)) (legal true)
-    ∷ case (laid (leastLayout (one (plus 0 1) (plus 1 1) (plus 0 1) []) free)) (laid (0 ∷ []))
+    ∷ case (ledger (one (plus 0 1) (plus 1 1) (plus 0 1) []) free) (held (ofBits binary64 0 ∷ ofBits binary64 0 ∷ []))
+    ∷ case (left (one (plus 0 1) (plus 1 1) (plus 0 1) []) free) (laid (0 ∷ []))
     ∷ case (least (one (plus 1 1) (plus 0 1) (inf true) (0 ∷ 0 ∷ 1 ∷ [])) free) (answered (Energy (inf false)))
-    ∷ case (laid (leastLayout (one (minus 1 1) (plus 0 1) (plus 0 1) []) (listed []))) (laid (1 ∷ []))
-    ∷ case (laid (leastLayout (one (minus 1 1) (plus 0 1) (plus 0 1) []) (listed (0 ∷ [])))) (laid (0 ∷ []))
+    ∷ case (left (one (minus 1 1) (plus 0 1) (plus 0 1) []) (listed [])) (laid (1 ∷ []))
+    ∷ case (least (one (minus 1 1) (plus 0 1) (plus 0 1) []) (listed [])) (answered (Energy (fin true 1 (pos 0))))
+    ∷ case (left (one (minus 1 1) (plus 0 1) (plus 0 1) []) (listed (0 ∷ []))) (laid (0 ∷ []))
     ∷ case (least (one (minus 1 1) (plus 0 1) (plus 0 1) []) (listed (99 ∷ []))) (answered (Refused (refusal 7 (0 ∷ []))))
+    ∷ case (left (one (minus 1 1) (plus 0 1) (plus 0 1) []) (listed (99 ∷ []))) (laid (7 ∷ []))
     ∷ case (needs (runNeed (two 2 2) free)) (needs 14)
     ∷ case (needs (runNeed (two 2 3) free)) (needs 22)
     ∷ case (needs (runNeed (two 1 3) free)) (needs 6)

@@ -82,3 +82,37 @@ overflow-before-the-bond = refl
 pub minus-zero : stateG (row 1 (1 ∷ []) (plus 200 1) (plus 0 1) (plus 0 1) (fin false 1 (negsuc 1073))) (1 ∷ []) ≡ Energy (fin true 0 (pos 0))
 unfolding decimal finite gasConstant firstFailing isLog firstBadSeed bayEnergy edgeEnergy noEnergy withWest withNorth listing add sub mul div le
 minus-zero = refl
+
+-- Strand 1 has east and south glue 1, strand 2 north, west and bottom glue 2, and all others are 0. Cell (1, 2) has −1 kcal/mol and cell (2, 1) −2; no other
+-- cell has any.
+abbrev ordered : (rows cols : ℕ) → (scaffold layout : List ℕ) → EnergyAnswer
+ordered rows cols scaffold layout =
+    let o = plus 0 1 in
+    let zeros = o ∷ o ∷ o ∷ o ∷ o ∷ o ∷ o ∷ o ∷ o ∷ [] in
+    stateG
+    (system (record { rows = rows; cols = cols; strands = 3; glues = 3; kelvin = plus 31015 100 }) (0 ∷ 0 ∷ 0 ∷ 0 ∷ 0 ∷ 0 ∷ 1 ∷ 1 ∷ 0 ∷ 0 ∷ 2 ∷ 0 ∷ 0 ∷ 2 ∷ 2 ∷ []) scaffold
+    (o ∷ o ∷ o ∷ o ∷ o ∷ minus 1 1 ∷ o ∷ minus 2 1 ∷ o ∷ []) zeros (nan ∷ o ∷ o ∷ []) [])
+    layout
+
+-- the index order: the west strand's east glue, then the east strand's west glue; with the strands exchanged it is cell (0, 0)
+pub west-then-east : ordered 1 2 (0 ∷ 0 ∷ []) (1 ∷ 2 ∷ []) ≡ Energy (fin true 1 (pos 0))
+unfolding decimal finite gasConstant firstFailing isLog firstBadSeed bayEnergy edgeEnergy noEnergy withWest withNorth listing add sub mul div le
+west-then-east = refl
+
+pub east-strand-in-the-west : ordered 1 2 (0 ∷ 0 ∷ []) (2 ∷ 1 ∷ []) ≡ Energy (fin false 0 (pos 0))
+unfolding decimal finite gasConstant firstFailing isLog firstBadSeed bayEnergy edgeEnergy noEnergy withWest withNorth listing add sub mul div le
+east-strand-in-the-west = refl
+
+-- the north strand's south glue, then the south strand's north glue
+pub north-then-south : ordered 2 1 (0 ∷ 0 ∷ []) (1 ∷ 2 ∷ []) ≡ Energy (fin true 1 (pos 0))
+unfolding decimal finite gasConstant firstFailing isLog firstBadSeed bayEnergy edgeEnergy noEnergy withWest withNorth listing add sub mul div le
+north-then-south = refl
+
+pub south-strand-in-the-north : ordered 2 1 (0 ∷ 0 ∷ []) (2 ∷ 1 ∷ []) ≡ Energy (fin false 0 (pos 0))
+unfolding decimal finite gasConstant firstFailing isLog firstBadSeed bayEnergy edgeEnergy noEnergy withWest withNorth listing add sub mul div le
+south-strand-in-the-north = refl
+
+-- the bay's glue, then the strand's bottom glue
+pub bay-then-strand : ordered 1 1 (1 ∷ []) (2 ∷ []) ≡ Energy (fin true 1 (pos 0))
+unfolding decimal finite gasConstant firstFailing isLog firstBadSeed bayEnergy edgeEnergy noEnergy withWest withNorth listing add sub mul div le
+bay-then-strand = refl

@@ -76,12 +76,20 @@ part-put-bay-end c = bay-inside (c .before .before) (c .before .loop-test .taken
 put-bay-requires : tie.Need-put-bay-requires Inv-loop μ-loop
 put-bay-requires c κs =
     let b = c .before .before .before in
-    let l = b .before .before in (
+    let l = b .before .before in
+    let w = writable b in (
       (
         previous-some (l .loop .inv) (b .before .loop-test .taken) (b .bay-at .ensures),
         here-long (l .loop .inv) (b .before .loop-test .taken) _ refl,
       ),
-      writable b,
+      record {
+        small = w .small;
+        some-leave = w .some-leave;
+        from-end = omega (arith, w .from-end);
+        behind = w .behind;
+        energies-fit = w .energies-fit;
+        notes-fit = w .notes-fit;
+      },
     )
 
 rows-of-requires : tie.Need-rows-of-requires Inv-loop μ-loop
