@@ -11,7 +11,7 @@ use Rattle.units.specs.Refusals.{passes}
 use Rattle.sdc2d.specs.System.{System}
 use Rattle.bay_lists.specs.Lists.{Constraints, names, listAllows, listOf}
 use Rattle.legal_at.specs.Legal.{permitted, isLegal}
-use Rattle.least_layout.specs.Layouts.{LegalLayout}
+use Rattle.legal_at.specs.Layouts.{LegalLayout}
 use Rattle.number_lists.specs.NumberLists.{listIn}
 use Rattle.sheet_fields.specs.Runs.{contents}
 use Rattle.sheet.specs.Read.{sheetLists, readVerdict}
