@@ -78,7 +78,7 @@ slice-write-sets : tie.Need-slice-write-sets
 slice-write-sets c =
     let s = c .before .before .before .before .before .before .before .before .before .before .before .before .before .before .before in
     let legal = isLegal (asked s) (lists s) in
-    let room : count s ≤ length (filled c) = front-fits (count s) (filled c) (c .before .before .before .before .before .fill-sets .ensures) (length-sets legal (count s)) in
+    let room : count s ≤ length (filled c) = front-fits (count s) (filled c) (c .before .before .before .before .before .fill-sets .ensures .0) (length-sets legal (count s)) in
     omega (arith, room, s .pre .1 .1 .1 .1)
 
 slice-reshare-prefix-check-empty : tie.Need-slice-reshare-prefix-check-empty
