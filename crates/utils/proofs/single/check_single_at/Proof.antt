@@ -4,7 +4,7 @@ use denote.Ref.{now}
 use borrow.Author.Needs.{needs}
 use Rattle.units.proofs.Verdicts.{refused-first, passed-first}
 use Rattle.units.specs.Kelvin.{kelvinVerdict}
-use Rattle.utils.specs.Single.{singleVerdict}
+use Rattle.single_sequence.specs.Single.{singleVerdict}
 use Rattle.utils.proofs.single.check_single_at.Statement.{statement}
 use Rattle.utils.proofs.single.check_single_at.Tie as tie
 

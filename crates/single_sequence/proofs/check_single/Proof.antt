@@ -1,14 +1,14 @@
--- `utils::single::check_single` meets its contract: the chain of tests is followed link by link. Assumes nothing.
+-- `single_sequence::check_single` meets its contract: the chain of tests is followed link by link. Assumes nothing.
 use borrow.Author.Needs.{needs}
 use borrow.Author.Tests.{lt-ltb, le-ltb}
 use mathlib.Core.Path.{_≡_, _∙_}
 use denote.Ref.{now}
 use Rattle.units.specs.Refusals.{_▷_}
 use Rattle.letters.specs.Letters.{lengthVerdict, lettersVerdict}
-use Rattle.utils.specs.Single.{shortVerdict, sequenceVerdict}
+use Rattle.single_sequence.specs.Single.{shortVerdict, sequenceVerdict}
 use Rattle.units.proofs.Verdicts.{refused-first, passed-first}
-use Rattle.utils.proofs.single.check_single.Statement.{statement}
-use Rattle.utils.proofs.single.check_single.Tie as tie
+use Rattle.single_sequence.proofs.check_single.Statement.{statement}
+use Rattle.single_sequence.proofs.check_single.Tie as tie
 
 check-length-requires : tie.Need-check-length-requires
 check-length-requires c κs = search needs
