@@ -7,7 +7,7 @@ use Rattle.units.specs.Refusals.{passes}
 use Rattle.units.specs.Answers.{baseEnergyAnswer}
 use Rattle.single_sequence.specs.Single.{singleEnergy}
 use Rattle.utils.specs.Single.{stringDnaDgDs}
-use Rattle.single_sequence.proofs.Refused.{single-passes}
+use Rattle.utils.proofs.Refused.{single-passes}
 use Rattle.entries.specs.Entries.{part}
 use Rattle.key_values.specs.declared.GsOrSeq.the-variants.{Seq}
 use Rattle.key_refusals.specs.Refusals.{valueVerdict}

@@ -3,7 +3,7 @@ ghost use mathlib.Core.Path.{_≡_};
 ghost use Prim.Native.Nat.{_-_};
 ghost use lib.ListN.{length};
 ghost use Rattle.units.specs.Refusals.{check};
-ghost use Rattle.single_sequence.specs.Single.{stepsSum, singleEnergy, sequenceVerdict};
+ghost use Rattle.single_sequence.specs.Single.{stepsSum, singleEnergy, withinLimitVerdict, sequenceVerdict, singleAtVerdict};
 use bases::DnaNucleotideBase;
 use letters::check_length;
 use letters::check_letters;
@@ -14,6 +14,7 @@ use step_values::start;
 use units::BaseEnergy;
 use units::Check;
 use units::Refusal;
+use units::check_kelvin;
 
 // The sum of all steps, from left to right.
 fn single_sequence_dg_ds(dna: &[u8]) -> BaseEnergy
@@ -32,14 +33,10 @@ fn single_sequence_dg_ds(dna: &[u8]) -> BaseEnergy
     sum
 }
 
-// What is refused of one sequence, whose number 11 names: over 256 letters, a bad letter, under 2 letters.
-pub fn check_single(dna: &[u8], sequence: usize) -> Check
-    ensures { λ r. ⌜ r ≡ check (sequenceVerdict sequence (now (dna .entry))) ⌝ }
+// What is refused of one sequence within the limit, whose number 11 names: a bad letter, then under 2 letters.
+fn check_within_limit(dna: &[u8], sequence: usize) -> Check
+    ensures { λ r. ⌜ r ≡ check (withinLimitVerdict sequence (now (dna .entry))) ⌝ }
 {
-    match check_length(dna) {
-        Check::Refused(r) => return Check::Refused(r),
-        Check::Passed => (),
-    }
     match check_letters(dna, sequence) {
         Check::Refused(r) => return Check::Refused(r),
         Check::Passed => (),
@@ -52,6 +49,26 @@ pub fn check_single(dna: &[u8], sequence: usize) -> Check
         });
     }
     Check::Passed
+}
+
+// What is refused of one sequence, whose number 11 names: over 256 letters, a bad letter, under 2 letters.
+pub fn check_single(dna: &[u8], sequence: usize) -> Check
+    ensures { λ r. ⌜ r ≡ check (sequenceVerdict sequence (now (dna .entry))) ⌝ }
+{
+    match check_length(dna) {
+        Check::Refused(r) => Check::Refused(r),
+        Check::Passed => check_within_limit(dna, sequence),
+    }
+}
+
+// What is refused of one sequence at a temperature, which is tested first.
+pub fn check_single_at(dna: &[u8], kelvin: f64) -> Check
+    ensures { λ r. ⌜ r ≡ check (singleAtVerdict (now (dna .entry)) kelvin) ⌝ }
+{
+    match check_kelvin(kelvin) {
+        Check::Refused(r) => Check::Refused(r),
+        Check::Passed => check_single(dna, 0),
+    }
 }
 
 // The energy of a sequence: its steps, then the start term. It is asked for after the tests: a byte that is no letter counts as C here.

@@ -33,7 +33,7 @@ unfolding ofBits decimal stepOf steps dgDs energy
 returns c =
     let a = c .before .args .a in
     let b = c .before .args .b in
-    rw (c .step-place .ensures) (ap₂ energy (made-of-steps (λ s. minus (s .dg) 100) a b nan) (made-of-steps (λ s. minus (s .ported) 10000) a b nan))
+    rw (c .step-place .ensures) (ap₂ energy (made-of-steps (λ s. minus (s .dg) 100) a b nan) (made-of-steps (λ s. minus (s .ds) 10000) a b nan))
 
 pub dg-ds-spec : {M : Type 1} → statement M
 dg-ds-spec = tie.close (tie.spec step-place-requires mul-t5 array-read-t8 mul-t10 array-read-t13 returns)

@@ -10,7 +10,7 @@ use Rattle.units.proofs.Answers.{in-hundredths, refused, given}
 use Rattle.units.proofs.Verdicts.{passed}
 use Rattle.units.specs.Refusals.{passes}
 use Rattle.units.specs.declared.HundredthsAnswer.the-variants.{Hundredths}
-use Rattle.single_sequence.proofs.Refused.{single-tabled, single-short, single-long}
+use Rattle.utils.proofs.Refused.{single-tabled, single-short, single-long}
 use Rattle.energy_hundredths.specs.Hundredths.{singleHundredths}
 use Rattle.single_sequence.specs.Single.{singleVerdict}
 use Rattle.utils.proofs.hundredths.string_dna_hundredths.Statement.{statement}
