@@ -16,7 +16,7 @@ use Rattle.pair_windows.specs.declared.PairSum.the-variants.{Going, NoLo
 use Rattle.bases.specs.Bases.{baseAt}
 use Rattle.step_values.specs.Steps.{dgDs}
 use Rattle.loop_values.specs.Loops.{loopPenalty}
-use Rattle.pair_windows.specs.Windows.{closedBy, matched, bothMatch, afterWindow, badIn, windowsSum}
+use Rattle.pair_windows.specs.Windows.{closedBy, bothMatch, afterWindow, badIn, windowsSum}
 
 pub windows-more : (a b : List ℕ) (i : ℕ)
     → windowsSum a b (i + 1) ≡ afterWindow (windowsSum a b i) (baseAt a i) (baseAt a (i + 1)) (baseAt b i) (baseAt b (i + 1))

@@ -1,6 +1,6 @@
 -- What the calls answer for one sequence is what its statement says, by the theorem of the sixteen steps. Assumes nothing.
 use Prim.Native.Nat.{ℕ, zero, suc, _+_, _*_, _-_}
-use mathlib.Core.Path.{_≡_, refl, sym, _∙_, ap, ap₂}
+use mathlib.Core.Path.{_≡_, refl, _∙_, ap, ap₂}
 use mathlib.Core.Bool.{Bool, true, false, cond}
 use mathlib.Core.List.{List}
 use native.Mathlib.Omega.{arith}
@@ -19,8 +19,8 @@ use Rattle.units.specs.Decimals.{minus}
 use Rattle.units.specs.Refusals.{Verdict, passes, refuses}
 use Rattle.bases.specs.declared.DnaNucleotideBase.{DnaNucleotideBase}
 use Rattle.bases.specs.Bases.{baseAt}
-use Rattle.step_values.specs.Steps.{noEnergy, dgDs, start, stepOf}
-use Rattle.step_values.specs.Published.{published, recorded}
+use Rattle.step_values.specs.Steps.{noEnergy, dgDs, startHundredths, start}
+use Rattle.step_values.specs.Published.{recorded}
 use Rattle.step_values.proofs.Published.{as-published}
 use Rattle.energy_hundredths.specs.Hundredths.{stepsHundredths, singleHundredths, endTerm}
 use Rattle.single_sequence.specs.Single.{stepsSum, singleEnergy, singleVerdict}
@@ -101,7 +101,7 @@ by-definition dna =
       inHundredths =
           λ z given.
           found-hundredths (singleVerdict dna) (singleHundredths dna) z given
-          ∙ ap (λ less. pos (196 + endTerm (baseAt dna 0) (baseAt dna (length dna - 1))) -ℤ pos less) (hundredths-sum dna (length dna - 1));
+          ∙ ap (λ less. pos (startHundredths + endTerm (baseAt dna 0) (baseAt dna (length dna - 1))) -ℤ pos less) (hundredths-sum dna (length dna - 1));
     }
   where
     as-ported : (e : BaseEnergy) → stringDnaDgDs dna ≡ Found e → e .ds ≡ add binary64 (roundedTo portedDs 10000 dna (length dna - 1)) (start .ds)

@@ -1,6 +1,6 @@
 -- The values of a step, two neighbouring letters read 5'→3', and the start term, as the Rust has them. Assumes nothing.
 use Prim.Native.Nat.{ℕ, _+_, _*_}
-use lib.Ieee.{Float, binary64, add}
+use lib.Ieee.{binary64, add}
 use Rattle.units.specs.declared.BaseEnergy.{BaseEnergy}
 use Rattle.units.specs.Decimals.{plus, minus}
 use Rattle.bases.specs.declared.DnaNucleotideBase.{DnaNucleotideBase}

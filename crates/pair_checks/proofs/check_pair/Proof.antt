@@ -1,5 +1,5 @@
 -- `pair_checks::check_pair` meets its contract: the chain of tests is followed link by link. Assumes nothing.
-use mathlib.Core.Path.{_≡_, _∙_}
+use mathlib.Core.Path.{_≡_}
 use denote.Ref.{now}
 use borrow.Author.Needs.{needs}
 use Rattle.units.proofs.Verdicts.{refused-first, passed-first}

@@ -3,7 +3,6 @@ use mathlib.Core.Path.{sym, _∙_, ap}
 use borrow.Author.Needs.{needs}
 use Rattle.pair_windows.specs.Windows.{addToDg}
 use Rattle.pair_windows.specs.declared.PairSum.the-variants.{Going}
-use Rattle.pair_windows.specs.declared.PairSum.{PairSum}
 use Rattle.pair_windows.proofs.closed_by.Statement.{statement}
 use Rattle.pair_windows.proofs.closed_by.Tie as tie
 

@@ -1,5 +1,4 @@
 -- `pair_windows::matched` meets its contract. Assumes nothing.
-use mathlib.Core.Path.{_∙_, ap}
 use borrow.Author.Needs.{needs}
 use borrow.Author.Tests.{lt-ltb, le-ltb}
 use Rattle.pair_windows.proofs.matched.Statement.{statement}

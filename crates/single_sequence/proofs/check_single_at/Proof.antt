@@ -1,5 +1,4 @@
 -- `single_sequence::check_single_at` meets its contract: the temperature decides, or leaves it to the sequence. Assumes nothing.
-use mathlib.Core.Path.{ap, _∙_, sym}
 use denote.Ref.{now}
 use borrow.Author.Needs.{needs}
 use Rattle.units.proofs.Verdicts.{refused-first, passed-first}

@@ -1,5 +1,5 @@
 -- `single_sequence::single_sequence_dg_ds` meets its contract. The invariant: the sum is that of the first i steps. Assumes nothing.
-use Prim.Native.Nat.{_+_, _-_, _≤_}
+use Prim.Native.Nat.{_-_, _≤_}
 use mathlib.Core.Path.{_≡_, _∙_, sym, ap}
 use native.Mathlib.Omega.{arith}
 use lib.ListN.{length}

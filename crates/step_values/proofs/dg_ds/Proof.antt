@@ -1,5 +1,5 @@
 -- `step_values::dg_ds` meets its contract: each table of the code is the printed numbers, each rounded once, which antt computes. Assumes nothing.
-use mathlib.Core.Path.{_≡_, ap₂}
+use mathlib.Core.Path.{ap₂}
 use native.Mathlib.Omega.{arith}
 use borrow.Author.Needs.{needs}
 use lib.Ieee.{Float, nan, ofBits}

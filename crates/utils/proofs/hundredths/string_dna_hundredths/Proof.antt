@@ -1,7 +1,6 @@
 -- `utils::hundredths::string_dna_hundredths` meets its contract: the tests refuse, or the value is answered. Assumes nothing.
 use mathlib.Core.Path.{_≡_, _∙_, ap}
 use native.Mathlib.Omega.{arith}
-use lib.ListN.{length}
 use mir.Syntax.{w32}
 use mir.ValLaws.{toZ-ofZ}
 use denote.Ref.{now}
