@@ -30,15 +30,15 @@ use Rattle.utils.proofs.string_dna_dg_ds.Kinds as dg-ds-kinds
 use Rattle.utils.proofs.string_dna_dg_ds.Reads as dg-ds
 use Rattle.utils.proofs.string_dna_hundredths.Kinds as hundredths-kinds
 use Rattle.utils.proofs.string_dna_hundredths.Reads as hundredths
-use Rattle.published_sums.specs.PublishedSums.{publishedDg, publishedDs, portedDs, onRecord, wholeTo, roundedTo, PublishedSums}
+use Rattle.published_sums.specs.PublishedSums.{publishedDg, publishedDs, portedDs, onRecord, wholeTo, roundedTo, rounded, entropy, PublishedSums}
 
 -- the code's sum, ΔG and ΔS, in the words of the statement
-energy-sum : (dna : List ℕ) (n : ℕ) → stepsSum dna n .dg ≡ roundedTo publishedDg 100 dna n
+energy-sum : (dna : List ℕ) (n : ℕ) → stepsSum dna n .dg ≡ roundedTo (λ a b. minus (publishedDg a b) 100) dna n
 unfolding stepsSum roundedTo noEnergy dgDs
 energy-sum dna zero = refl
 energy-sum dna (suc n) = ap₂ (add binary64) (ap (λ k. minus k 100) (as-published (baseAt dna n) (baseAt dna (suc n)) .dg)) (energy-sum dna n)
 
-entropy-sum : (dna : List ℕ) (n : ℕ) → stepsSum dna n .ds ≡ roundedTo portedDs 10000 dna n
+entropy-sum : (dna : List ℕ) (n : ℕ) → stepsSum dna n .ds ≡ roundedTo (λ a b. entropy (pos (portedDs a b))) dna n
 unfolding stepsSum roundedTo noEnergy dgDs
 entropy-sum dna zero = refl
 entropy-sum dna (suc n) = ap (add binary64 (minus (portedDs (baseAt dna n) (baseAt dna (suc n))) 10000)) (entropy-sum dna n)
@@ -52,13 +52,14 @@ off-record a b none = as-published a b .ds ∙ either (recorded a b) none
     either false h = omega arith
 
 -- where no step on record occurs
-entropies-off-record : (dna : List ℕ) (n : ℕ) → wholeTo onRecord dna n ≡ 0 → roundedTo portedDs 10000 dna n ≡ roundedTo publishedDs 10000 dna n
+entropies-off-record : (dna : List ℕ) (n : ℕ) → wholeTo onRecord dna n ≡ 0
+    → roundedTo (λ a b. entropy (pos (portedDs a b))) dna n ≡ roundedTo (λ a b. entropy (pos (publishedDs a b))) dna n
 unfolding wholeTo roundedTo
 entropies-off-record dna zero none = refl
 entropies-off-record dna (suc n) none =
     let a = baseAt dna n in
     let b = baseAt dna (suc n) in
-    ap₂ (add binary64) (ap (λ k. minus k 10000) (off-record a b (omega arith))) (entropies-off-record dna n (omega arith))
+    ap₂ (add binary64) (ap (λ k. entropy (pos k)) (off-record a b (omega arith))) (entropies-off-record dna n (omega arith))
 
 -- nine for each step on record
 nine-each : (t : Bool) → cond t 9 0 ≡ 9 * cond t 1 0
@@ -104,7 +105,7 @@ by-definition dna =
           ∙ ap (λ less. pos (startHundredths + endTerm (baseAt dna 0) (baseAt dna (length dna - 1))) -ℤ pos less) (hundredths-sum dna (length dna - 1));
     }
   where
-    as-ported : (e : BaseEnergy) → stringDnaDgDs dna ≡ Found e → e .ds ≡ add binary64 (roundedTo portedDs 10000 dna (length dna - 1)) (start .ds)
+    as-ported : (e : BaseEnergy) → stringDnaDgDs dna ≡ Found e → e .ds ≡ add binary64 (rounded (λ a b. entropy (pos (portedDs a b))) dna) (start .ds)
     as-ported e given = ap (λ x. x .ds) (found (singleVerdict dna) (singleEnergy dna) e given) ∙ ap (λ x. add binary64 x (start .ds)) (entropy-sum dna (length dna - 1))
 
 -- Of any two results that meet the contracts of `string_dna_dg_ds` and `string_dna_hundredths` on the same letters, the statement holds.

@@ -45,13 +45,13 @@ wholeTo value dna (suc n) = wholeTo value dna n + value (baseAt dna n) (baseAt d
 abbrev pub whole : Value → List ℕ → ℕ
 whole value dna = wholeTo value dna (length dna - 1)
 
--- the same in floats: from 0.0, left to right, each printed decimal and each addition rounded once, the new value plus the sum
-unfoldable pub roundedTo : (value : Value) → (parts : ℕ) → List ℕ → ℕ → Float
-roundedTo value parts dna zero = plus 0 1
-roundedTo value parts dna (suc n) = add binary64 (minus (value (baseAt dna n) (baseAt dna (suc n))) parts) (roundedTo value parts dna n)
+-- a sum of floats: from 0.0, left to right, the new value plus the sum, each addition rounded once
+unfoldable pub roundedTo : (value : DnaNucleotideBase → DnaNucleotideBase → Float) → List ℕ → ℕ → Float
+roundedTo value dna zero = plus 0 1
+roundedTo value dna (suc n) = add binary64 (value (baseAt dna n) (baseAt dna (suc n))) (roundedTo value dna n)
 
-abbrev pub rounded : (value : Value) → (parts : ℕ) → List ℕ → Float
-rounded value parts dna = roundedTo value parts dna (length dna - 1)
+abbrev pub rounded : (value : DnaNucleotideBase → DnaNucleotideBase → Float) → List ℕ → Float
+rounded value dna = roundedTo value dna (length dna - 1)
 
 -- −ΔS of the start in ten-thousandths: the paper prints ΔS −0.0057, and the Rust has +0.0057
 abbrev pub startDsPublished : ℤ
@@ -68,11 +68,12 @@ entropy (negsuc n) = plus (suc n) 10000
 -- Of a sequence, what `string_dna_dg_ds` answered for it and what `string_dna_hundredths` answered for it:
 pub record PublishedSums (dna : List ℕ) (energies : BaseEnergyAnswer) (hundredths : HundredthsAnswer) : Type 0 where
   -- an answered ΔG is, to the bit, the sum of the published values and then the published start
-  pub energy : (e : BaseEnergy) → energies ≡ Found e → e .dg ≡ add binary64 (rounded publishedDg 100 dna) (plus publishedStartDg 100)
+  pub energy : (e : BaseEnergy) → energies ≡ Found e → e .dg ≡ add binary64 (rounded (λ a b. minus (publishedDg a b) 100) dna) (plus publishedStartDg 100)
   -- an answered ΔS is, to the bit, the sum of the ported values and then the ported start
-  pub entropyAsPorted : (e : BaseEnergy) → energies ≡ Found e → e .ds ≡ add binary64 (rounded portedDs 10000 dna) (entropy startDsPorted)
+  pub entropyAsPorted : (e : BaseEnergy) → energies ≡ Found e → e .ds ≡ add binary64 (rounded (λ a b. entropy (pos (portedDs a b))) dna) (entropy startDsPorted)
   -- where no step on record occurs it is that of the published values, and then the ported start
-  pub entropyOffRecord : (e : BaseEnergy) → energies ≡ Found e → whole onRecord dna ≡ 0 → e .ds ≡ add binary64 (rounded publishedDs 10000 dna) (entropy startDsPorted)
+  pub entropyOffRecord : (e : BaseEnergy) → energies ≡ Found e → whole onRecord dna ≡ 0
+      → e .ds ≡ add binary64 (rounded (λ a b. entropy (pos (publishedDs a b))) dna) (entropy startDsPorted)
   -- of −ΔS in ten-thousandths, the ported sum of the steps is the published one and 9 for each step on record
   pub entropySteps : whole portedDs dna ≡ whole publishedDs dna + 9 * whole onRecord dna
   -- and the start is −57 ported, +57 published
