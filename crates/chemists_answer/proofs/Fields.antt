@@ -67,6 +67,7 @@ module _ (s : System) (sheet o t : List ℕ) (read : readVerdict (s .sizes .rows
           contents = contents (rows * columns) sheet;
           lists = sheetLists rows columns sheet;
           is-sheet = read-is-sheet rows columns sheet o t read;
+          legal = legal;
           keeps-it-empty = stays-empty;
           restricts-nothing = as-without;
           is-one-of-them = λ bay inside e. sym (as-without bay inside e (getD layout bay 0)) ∙ legal .each bay inside;

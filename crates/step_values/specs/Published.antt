@@ -1,4 +1,5 @@
--- The paper's values (SantaLucia and Hicks 2004, 37 °C) as it prints them, ten rows and the start, and what is on record of the ported ones. Assumes nothing.
+-- The published values (SantaLucia and Hicks 2004, 37 °C), ten rows and the start, with minus signs turned: ΔG as document 01 gives it, ΔS as Biopython's table
+-- DNA_NN4 does; and what is on record of the ported ones. Assumes nothing.
 use Prim.Native.Nat.{ℕ, _+_}
 use mathlib.Core.Path.{_≡_}
 use mathlib.Core.Bool.{Bool, cond, _&&_, _||_}
