@@ -16,7 +16,7 @@ pub as-published : (a b : DnaNucleotideBase) → AsPublished a b
 unfolding stepOf published publishedRows rowsOf
 as-published a b =
     record {
-      one-row = each-step (λ x y. length (rowsOf x y publishedRows) ≡ 1) refl refl refl refl refl refl refl refl refl refl refl refl refl refl refl refl a b;
+      oneRow = each-step (λ x y. length (rowsOf x y publishedRows) ≡ 1) refl refl refl refl refl refl refl refl refl refl refl refl refl refl refl refl a b;
       dg = each-step (λ x y. stepOf x y .dg ≡ published x y .dg) refl refl refl refl refl refl refl refl refl refl refl refl refl refl refl refl a b;
       ds = each-step (λ x y. stepOf x y .ds ≡ published x y .ds + cond (recorded x y) 9 0) refl refl refl refl refl refl refl refl refl refl refl refl refl refl refl refl a b;
     }

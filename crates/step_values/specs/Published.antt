@@ -23,7 +23,7 @@ pub record Row : Type 0 where
 abbrev row : DnaNucleotideBase → DnaNucleotideBase → ℕ → ℕ → Row
 row first second dg ds = record { first = first; second = second; dg = dg; ds = ds }
 
--- the table, a row for each step that is not another one's read from the other strand
+-- the ten rows; each of the other six steps is one of them read from the other strand
 unfoldable pub publishedRows : List Row
 publishedRows =
     row A A 100 213
@@ -46,12 +46,12 @@ sameStep a b c d = eqb (indexOf a) (indexOf c) && eqb (indexOf b) (indexOf d)
 abbrev pub isRowOf : (a b : DnaNucleotideBase) → Row → Bool
 isRowOf a b r = sameStep (r .first) (r .second) a b || sameStep (r .first) (r .second) (connectsTo b) (connectsTo a)
 
--- the rows of a step, of which there is one
+-- the rows that are a step's
 unfoldable pub rowsOf : (a b : DnaNucleotideBase) → List Row → List Row
 rowsOf a b [] = []
 rowsOf a b (r ∷ rest) = cond (isRowOf a b r) (r ∷ rowsOf a b rest) (rowsOf a b rest)
 
--- what the paper prints of a step
+-- what the paper prints of a step: its row
 unfoldable pub published : (a b : DnaNucleotideBase) → Row
 unfolding publishedRows rowsOf
 published a b = getD (rowsOf a b publishedRows) 0 (row a b 0 0)
@@ -72,6 +72,6 @@ recorded a b = sameStep T A a b || (sameStep G G a b || sameStep C C a b)
 
 -- A ported step beside the paper's, which has one row for it: ΔG is the same; ΔS is the same but for the steps on record, where it is 9 further from zero.
 pub record AsPublished (a b : DnaNucleotideBase) : Type 0 where
-  pub one-row : length (rowsOf a b publishedRows) ≡ 1
+  pub oneRow : length (rowsOf a b publishedRows) ≡ 1
   pub dg : stepOf a b .dg ≡ published a b .dg
   pub ds : stepOf a b .ds ≡ published a b .ds + cond (recorded a b) 9 0
