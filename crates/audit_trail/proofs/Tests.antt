@@ -78,9 +78,9 @@ module _ (s : System) (c : Constraints) (layout energies leaving : ℕ) where
   passes-early t =
       let need = needs (t .system) in
       let shaped : shape ≡ passes =
-      ap₂ (λ (a b : Bool). refuseIf (not (a && b)) 5 []) (eq-eqb layout (bays (s .sizes)) (t .layout-long)) (t .offsets) in
+      ap₂ (λ (a b : Bool). refuseIf (not (a && b)) 5 []) (eq-eqb layout (bays (s .sizes)) (t .layout-fits)) (t .offsets-shaped) in
       let fits : room ≡ passes =
-      ap (λ (r : ℕ). roomVerdict r energies leaving) need ∙ room-passes (needed s c) energies leaving (t .few-rows) (t .energies-long) (t .leaving-long) in
+      ap (λ (r : ℕ). roomVerdict r energies leaving) need ∙ room-passes (needed s c) energies leaving (t .few-rows) (t .energies-fit) (t .leaving-fits) in
       both-pass (systemVerdict s) (shape ▷ empty ▷ room) (t .system)
       (both-pass shape (empty ▷ room) shaped (both-pass empty room (seven-of-a-system s c (t .system) .passed .1 (t .some-strand)) fits))
 
@@ -97,12 +97,12 @@ module _ (s : System) (c : Constraints) (layout energies leaving : ℕ) where
       let long = passed-9 (needed s c) energies leaving fits in
       record {
         system = system;
-        layout-long = eqb-true layout (bays (s .sizes)) (and-left _ _ shaped);
-        offsets = and-right (eqb layout (bays (s .sizes))) (offsetsShaped (bays (s .sizes)) c) shaped;
+        layout-fits = eqb-true layout (bays (s .sizes)) (and-left _ _ shaped);
+        offsets-shaped = and-right (eqb layout (bays (s .sizes))) (offsetsShaped (bays (s .sizes)) c) shaped;
         some-strand = seven-of-a-system s c system .passed .0 (first-passes empty room last);
         few-rows = passed-8 (needed s c) energies leaving fits;
-        energies-long = long .0;
-        leaving-long = long .1;
+        energies-fit = long .0;
+        leaving-fits = long .1;
       }
 
 -- ---- none of these tests gives 10

@@ -176,7 +176,11 @@ module _ (s : System) (c : Constraints) (fit : Fit s) where
                   ∙ ap (λ (r : List ℕ). getD r (n - suc k) 0) (sym (filling-back s c fit g legal))
                   ∙ newest-at (scannedStrand s (rowByRow (s .sizes .rows) (s .sizes .cols) g)) n (n - suc k) place
                   ∙ ap (scannedStrand s (rowByRow (s .sizes .rows) (s .sizes .cols) g)) again);
-              first = λ j less.
+              least-row = λ j other.
+                subst (λ (x : Float). le x (energyIn s c e l last j) ≡ true) (sym energy)
+                (subst (λ (x : Float). le (answer z n) x ≡ true) (ap (λ (m : ℕ). heldAt (energies z m) j) (sym all) ∙ sym (held last j h other))
+                (theorem .least-row answered j (subst (λ (m : ℕ). j < length (windows z m)) all (in-windows last j h other))));
+            first = λ j less.
                   let other : j < length (rowsAfter s c last) = omega (arith, less, b) in
                   subst (λ (x : Float). lt x (energyIn s c e l last j) ≡ true) (sym energy)
                   (subst (λ (x : Float). lt (answer z n) x ≡ true) (ap (λ (m : ℕ). heldAt (energies z m) j) (sym all) ∙ sym (held last j h other))

@@ -1,5 +1,6 @@
 -- DEMAND 3: the ledger of a run is an audit trail. The customer's sentences, about what `sdc2d_thermo::mfe_configuration` was lent and what it left.
--- `proofs/TheLedgerIsAnAuditTrail.antt` proves them of the call's own contract. Assumes nothing.
+-- `proofs/TheLedgerIsAnAuditTrail.antt` proves them of the call's own contract, with the system and the lists that it was lent. All NaN are one value here.
+-- Assumes nothing.
 use Prim.Native.Nat.{ℕ, suc, _+_, _≤_, _<_}
 use mathlib.Core.Path.{_≡_}
 use mathlib.Core.Bool.{true, false}
@@ -22,15 +23,15 @@ use Rattle.audit_trail.specs.Rows.{rowsAfter, begins, needed, EndsIn, st
 
 -- what the two tables of a ledger hold, row by row
 module _ (s : System) (c : Constraints) (energies : List Float) (leaving : List ℕ) where
-  -- the energy in row i of the block after bay k, and the byte noted there
+  -- the energy in row i of the block after bay k, in units of R·T, and the byte noted there
   abbrev pub energyIn : (k i : ℕ) → Float
   energyIn k i = getD energies (begins s c k + i) nan
 
   abbrev pub notedIn : (k i : ℕ) → ℕ
   notedIn k i = getD leaving (begins s c k + i) 0
 
-  -- Row i of the block after bay k leads back to a filling: it is legal, it ends in the row's choice, its scan sum is the row's energy to the bit; and on
-  -- the way back, in whichever row it ends after a bay j, the byte noted there is the strand that left the window in it.
+  -- Row i of the block after bay k leads back to a filling: it is legal, it ends in the row's choice, its scan sum is the row's energy to the bit; and for
+  -- each bay j on the way, in the row in which its first j + 1 strands end, the byte is the strand that left the window in it when bay j came.
   pub record LeadsBack (k i : ℕ) (filling : List ℕ) : Type 0 where
     pub legal : LegalFilling s c (suc k) filling
     pub ends : EndsIn s c k i filling
@@ -39,7 +40,8 @@ module _ (s : System) (c : Constraints) (energies : List Float) (leaving : List 
 
   -- The ledger is an audit trail.
   pub record AuditTrail : Type 0 where
-    -- "each block has one row for each choice of legal strands on the last bays": every legal filling of the bays so far ends in the choice of a row,
+    -- "each block has one row for each choice of legal strands on the last bays", as Rows.antt lists and places them: every legal filling of the bays so far
+    -- ends in the choice of a row,
     pub every-choice : (k : ℕ) → k < bays (s .sizes) → (filling : List ℕ) → LegalFilling s c (suc k) filling
         → (i : ℕ) × (i < length (rowsAfter s c k)) × EndsIn s c k i filling
     -- no choice has two rows,
@@ -52,46 +54,54 @@ module _ (s : System) (c : Constraints) (energies : List Float) (leaving : List 
         → EndsIn s c k i filling → le (energyIn k i) (fillingSum s (suc k) filling) ≡ true
     -- "and the notes lead back to it"
     pub leads-back : (k i : ℕ) → k < bays (s .sizes) → i < length (rowsAfter s c k) → (filling : List ℕ) × LeadsBack k i filling
-    -- of equal sums the one from which the lowest strand left stays: one from which a lower strand left is larger
+    -- the noted strand is the lowest that left among the fillings of least sum: one from which a lower strand left has a larger sum
     pub lowest-leaver : (k i : ℕ) → k < bays (s .sizes) → i < length (rowsAfter s c k) → (filling : List ℕ) → LegalFilling s c (suc k) filling
         → EndsIn s c k i filling → strandThatLeft s k filling < notedIn k i → lt (energyIn k i) (fillingSum s (suc k) filling) ≡ true
 
-  -- The layout is the filling to which the first least row of the last block leads back.
+  -- The layout is the filling to which the first least row of the last block leads back: row i of the block after bay `last`.
   pub record FirstLeast (layout : List ℕ) (last i : ℕ) (filling : List ℕ) : Type 0 where
     pub all-bays : suc last ≡ bays (s .sizes)
     pub inside : i < length (rowsAfter s c last)
     pub leads : LeadsBack last i filling
     pub laid : (k : ℕ) → k ≤ last → scannedStrand s layout k ≡ getD filling k 0
+    pub least-row : (j : ℕ) → j < length (rowsAfter s c last) → le (energyIn last i) (energyIn last j) ≡ true
     pub first : (j : ℕ) → j < i → lt (energyIn last i) (energyIn last j) ≡ true
 
 -- What an answered run leaves.
 pub record AnsweredRun (s : System) (c : Constraints) (energy : Float) (layout : List ℕ) (energies : List Float) (leaving : List ℕ) : Type 0 where
   pub trail : AuditTrail s c energies leaving
-  -- "so the layout is legal": its scan sum times (R·T) is the answer,
+  -- "so the layout is legal",
   pub legal : LegalLayout s c layout
+  -- its scan sum times (R·T) is the answer in kcal/mol,
   pub energy-is : energy ≡ mul binary64 (scanSumOf s layout) (rtval (s .sizes .kelvin))
   -- "and none has a smaller sum"
   pub no-smaller : (other : List ℕ) → LegalLayout s c other → le (scanSumOf s layout) (scanSumOf s other) ≡ true
   -- the trail ends in it
   pub at-the-end : (last i : ℕ) × (filling : List ℕ) × FirstLeast s c energies leaving layout last i filling
 
--- The tests before the energies pass: refusals 1 to 5 and 7 to 9 in this order.
-pub record EarlierTestsPass (s : System) (c : Constraints) (layout energies leaving : ℕ) : Type 0 where
+-- The tests before the energies pass, each by the refusal that it would be; which number a failed one gives is the contract's matter. What is lent to be
+-- written counts here by its length alone.
+pub record EarlierTestsPass (s : System) (c : Constraints) (layoutLength energiesLength leavingLength : ℕ) : Type 0 where
+  -- 1 to 4
   pub system : systemVerdict s ≡ passes
-  pub layout-long : layout ≡ bays (s .sizes)
-  pub offsets : offsetsShaped (bays (s .sizes)) c ≡ true
+  -- 5
+  pub layout-fits : layoutLength ≡ bays (s .sizes)
+  pub offsets-shaped : offsetsShaped (bays (s .sizes)) c ≡ true
+  -- 7, where bays count row by row
   pub some-strand : (bay : ℕ) → bay < bays (s .sizes) → (strand : ℕ) × (isLegal s c bay strand ≡ true)
+  -- 8
   pub few-rows : needed s c ≤ 1048576
-  pub energies-long : needed s c ≤ energies
-  pub leaving-long : needed s c ≤ leaving
+  -- 9
+  pub energies-fit : needed s c ≤ energiesLength
+  pub leaving-fits : needed s c ≤ leavingLength
 
 -- Demand 3 of one call: the answer, and each lent slice before it (₀) and after it (₁).
 pub record Demand3
     (s : System) (c : Constraints) (answer : EnergyAnswer) (layout₀ layout₁ : List ℕ) (energies₀ energies₁ : List Float) (leaving₀ leaving₁ : List ℕ) : Type 0
   where
-    -- what stands where an energy is answered,
+    -- what stands where an energy is answered
     pub answered : (energy : Float) → answer ≡ Energy energy → AnsweredRun s c energy layout₁ energies₁ leaving₁
-    -- and that one is answered exactly when the earlier tests pass and no legal layout's scan sum is NaN or minus infinity
+    -- an energy is answered exactly when the earlier tests pass and no legal layout's scan sum is NaN or minus infinity
     pub answers : ((energy : Float) × (answer ≡ Energy energy))
         ↔ (EarlierTestsPass s c (length layout₀) (length energies₀) (length leaving₀)
         × ((layout : List ℕ) → LegalLayout s c layout → noEnergy (scanSumOf s layout) ≡ false))

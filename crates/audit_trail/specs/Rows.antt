@@ -1,5 +1,5 @@
--- The rows of the ledger: which choices they stand for, where they stand, and what a row says of a filling. Bays are numbered in scan order, from 0;
--- a filling has the strands of the first bays in that order. Assumes nothing.
+-- The rows of the ledger: which choices they stand for, where they stand, and what a row says of a filling. Here bay k is the one that is scanned as
+-- number k, from 0; a filling has the strands of the first bays in that order, so that after bay k it has k + 1. Assumes nothing.
 use Prim.Native.Nat.{ℕ, zero, suc, _+_, _-_, min}
 use mathlib.Core.Path.{_≡_}
 use mathlib.Core.Bool.{cond}
@@ -12,11 +12,11 @@ use Rattle.bay_lists.specs.Lists.{Constraints}
 use Rattle.legal_at.specs.Layouts.{legalStrands}
 use Rattle.beta_energies.specs.ScanSum.{scanSumTo}
 
--- the shorter side of the grid
+-- the shorter side of the grid, the smaller of rows and columns: the `window` of scan_order is the same number (`side-is` in proofs/Choices.antt)
 abbrev pub shorterSide : System → ℕ
 shorterSide s = min (s .sizes .rows) (s .sizes .cols)
 
--- how many bays the window has after bay k: the shorter side, fewer at the start
+-- how many bays the window has after bay k, the (k + 1)-th: as many as the shorter side, fewer at the start
 abbrev pub windowAfter : System → (k : ℕ) → ℕ
 windowAfter s k = min (suc k) (shorterSide s)
 
@@ -47,14 +47,14 @@ begins s c (suc k) = begins s c k + length (rowsAfter s c k)
 abbrev pub needed : System → Constraints → ℕ
 needed s c = begins s c (bays (s .sizes))
 
--- a filling of the bays up to k ends in the choice of row i of the block after bay k
+-- a filling of bays 0 to k ends in the choice of row i of the block after bay k
 abbrev pub EndsIn : System → Constraints → (k i : ℕ) → (filling : List ℕ) → Type 0
 EndsIn s c k i filling = drop (oldest s k) filling ≡ getD (rowsAfter s c k) i []
 
--- the strand of a filling that left the window when bay k came, 0 while none has
+-- the strand of a filling that left the window when bay k came: it lay on bay k − m, where m is the shorter side; 0 while none has left
 abbrev pub strandThatLeft : System → (k : ℕ) → (filling : List ℕ) → ℕ
 strandThatLeft s k filling = cond (leb (shorterSide s) k) (getD filling (k - shorterSide s) 0) 0
 
--- the scan sum of a filling of the first k bays
-abbrev pub fillingSum : System → (k : ℕ) → (filling : List ℕ) → Float
-fillingSum s k filling = scanSumTo s (λ j. getD filling j 0) k
+-- the scan sum of a filling of the first `count` bays
+abbrev pub fillingSum : System → (count : ℕ) → (filling : List ℕ) → Float
+fillingSum s count filling = scanSumTo s (λ j. getD filling j 0) count

@@ -18,7 +18,7 @@ module _ (s : System) where
   abbrev lines : Bool
   lines = byRows (s .sizes .rows) (s .sizes .cols)
 
-  -- how long a major line is
+  -- how long a major line is: the shorter side of the grid
   abbrev side : ℕ
   side = window (s .sizes .rows) (s .sizes .cols)
 
@@ -31,7 +31,8 @@ module _ (s : System) where
       (withBond (leb side k) (edgeEnergy z (s .strandGlues) (s .deltaG) (s .entropy) lines before own)
       (bayEnergy z (s .strandGlues) (s .scaffold) (s .deltaG) (s .entropy) (s .logs) (bayAt (z .rows) (z .cols) k) own))
 
-  -- the scan sum over the first k bays, with `strandAt j` on the bay that is scanned as number j: from 0.0, one number a bay
+  -- the scan sum over the first bays, as many as the second argument says, with `strandAt j` on the bay that is scanned as number j: from 0.0, one number
+  -- a bay. A neighbour that is not there is asked for too, and `bayNumber` leaves it out.
   unfoldable pub scanSumTo : (strandAt : ℕ → ℕ) → (k : ℕ) → Float
   scanSumTo strandAt zero = ofBits binary64 0
   scanSumTo strandAt (suc k) = add binary64 (scanSumTo strandAt k) (bayNumber k (strandAt (k - side)) (strandAt (k - 1)) (strandAt k))

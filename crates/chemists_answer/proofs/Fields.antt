@@ -11,7 +11,7 @@ use Rattle.units.specs.Refusals.{passes}
 use Rattle.sdc2d.specs.System.{System}
 use Rattle.bay_lists.specs.Lists.{Constraints, names, listAllows, listOf}
 use Rattle.legal_at.specs.Legal.{permitted, isLegal}
-use Rattle.least_layout.specs.Layouts.{LegalLayout}
+use Rattle.legal_at.specs.Layouts.{LegalLayout}
 use Rattle.number_lists.specs.NumberLists.{listIn}
 use Rattle.sheet_fields.specs.Runs.{contents}
 use Rattle.sheet.specs.Read.{sheetLists, readVerdict}
@@ -67,6 +67,7 @@ module _ (s : System) (sheet o t : List ℕ) (read : readVerdict (s .sizes .rows
           contents = contents (rows * columns) sheet;
           lists = sheetLists rows columns sheet;
           is-sheet = read-is-sheet rows columns sheet o t read;
+          legal = legal;
           keeps-it-empty = stays-empty;
           restricts-nothing = as-without;
           is-one-of-them = λ bay inside e. sym (as-without bay inside e (getD layout bay 0)) ∙ legal .each bay inside;

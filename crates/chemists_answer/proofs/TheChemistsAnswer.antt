@@ -19,7 +19,7 @@ use Rattle.legal.specs.Sets.{setsOf, shapeVerdict, emptyVerdict}
 use Rattle.state_energy.specs.StateG.{inKcal}
 use Rattle.run_room.specs.Room.{roomVerdict}
 use Rattle.least_layout.specs.Run.{runNeed, leastSum, leastLayout}
-use Rattle.least_layout.specs.Layouts.{LegalLayout}
+use Rattle.legal_at.specs.Layouts.{LegalLayout}
 use Rattle.least_layout.proofs.Passed.{run-is-right}
 use Rattle.sdc2d_thermo.specs.Run.{earlyVerdict, sumVerdict, runVerdict}
 use Rattle.sheet_cells.specs.Cells.{allTiles, starts}

@@ -7,6 +7,7 @@ use lib.ListN.{getD}
 use Rattle.sdc2d.specs.System.{System}
 use Rattle.bay_lists.specs.Lists.{Constraints, constraints}
 use Rattle.legal_at.specs.Legal.{isLegal}
+use Rattle.legal_at.specs.Layouts.{LegalLayout}
 use Rattle.legal.specs.Sets.{bays}
 use Rattle.sheet_grammar.specs.Grammar.{SheetText}
 
@@ -20,6 +21,8 @@ pub record ChemistsAnswer (s : System) (sheet : List ℕ) (given : Constraints) 
   pub contents : List (List ℕ)
   pub lists : List (List ℕ)
   pub is-sheet : SheetText (s .sizes .cols) (s .sizes .rows) sheet contents lists
+  -- the layout has a strand for each bay, each legal by these lists
+  pub legal : LegalLayout s given layout
   -- a bay whose field is `0`, bare or in quotes, has 0 in the layout: it stays empty (with another seed than 0 on it the run refuses, 7)
   pub keeps-it-empty : (bay : ℕ) → bay < bays (s .sizes) → getD contents bay [] ≡ 48 ∷ [] → getD layout bay 0 ≡ 0
   -- where a bay's field has no content, the bay's legal strands are those that it has without constraints

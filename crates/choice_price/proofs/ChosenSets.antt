@@ -11,19 +11,21 @@ use lib.Dec.{eqb}
 use lib.ListN.{length, getD, set, take, length-set}
 use lib.Seq.{ext-getD, take-set-lt, getD-set-same, getD-set-other}
 use borrow.Author.Tests.{eqb-true, eq-eqb, ne-eqb}
-use Rattle.units.specs.Refusals.{refuses}
+use Rattle.units.specs.Refusals.{passes, refuses}
 use Rattle.entries.proofs.Same.{both}
 use Rattle.sets.specs.Set.{has, word}
 use Rattle.sets.proofs.Words.{word-same, has-word}
 use Rattle.sets.proofs.Operations.{word-none, word-only}
-use Rattle.sdc2d.specs.System.{System}
+use Rattle.sdc2d.specs.System.{System, systemVerdict}
+use Rattle.sdc2d.proofs.Fine.{fine}
 use Rattle.bay_lists.specs.Lists.{Constraints, constraints}
 use Rattle.bay_lists.proofs.Restricting.{kept-of}
 use Rattle.legal_at.specs.Legal.{isLegal, setAt}
 use Rattle.scan_order.specs.Scan.{bayAt}
 use Rattle.legal.specs.Sets.{bays, setsTo, firstEmpty, emptyVerdict}
 use Rattle.legal.proofs.Fronts.{length-sets}
-use Rattle.legal.proofs.Seven.{FirstWithout, seven, set-of-bay}
+use Rattle.legal.specs.Seven.{SevenTheorem}
+use Rattle.legal.proofs.Seven.{FirstWithout, seven, set-of-bay, seven-exactly}
 use Rattle.least_layout.proofs.Meaning.{legal-below}
 use Rattle.choice_price.specs.Choice.{chosenLegal, chosenSets}
 
@@ -114,3 +116,8 @@ module _ (s : System) (c : Constraints) (chosen strand : ℕ) where
         let k = firstEmpty rows cols sets 0 (rows * cols) in
         (emptyVerdict rows cols sets ≡ refuses 7 (bayAt rows cols k ∷ [])) × FirstWithout rows cols sets 0 k
     seven-there e = seven (s .sizes .rows) (s .sizes .cols) (chosenSets s c chosen strand) chosen inside (nothing-left e)
+
+-- 7 under a choice comes exactly where the bay that it names is the first one in scan order that has no strand left
+pub seven-of-a-choice : (s : System) (c : Constraints) (chosen strand : ℕ) → systemVerdict s ≡ passes → SevenTheorem (s .sizes) (chosenLegal s c chosen strand)
+seven-of-a-choice s c chosen strand e =
+    seven-exactly (s .sizes) (chosenLegal s c chosen strand) (λ bay t is. omega (arith, chosen-below s c chosen strand bay t is, fine s e .shape .sizes .strands))

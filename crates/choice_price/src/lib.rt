@@ -3,7 +3,7 @@ ghost use mathlib.Core.Path.{_≡_};
 ghost use mathlib.Core.Bool.{true};
 ghost use mathlib.Core.List.{[]};
 ghost use Prim.Native.Nat.{_*_, _≤_, _<_};
-ghost use lib.ListN.{length, take};
+ghost use lib.ListN.{length, take, drop};
 ghost use Rattle.units.specs.Refusals.{check, passes, Prints};
 ghost use Rattle.units.specs.Answers.{energyRefusal};
 ghost use Rattle.sdc2d.specs.System.{system, systemVerdict};
@@ -77,6 +77,7 @@ fn chosen_sets(
     ensures answer { λ r. let s = system z (now («strand_glues» .entry)) (now (scaffold .entry)) (now («delta_g» .entry)) (now (entropy .entry)) [] (now (seeds .entry)) in
         let c = constraints constrained (now (offsets .entry)) (now (tiles .entry)) in
         ⌜ r ≡ check (emptyVerdict (z .rows) (z .cols) (setsTo (chosenLegal s c bay strand) (length (now (scaffold .entry))))) ⌝ }
+    ensures rest { λ _. ⌜ drop (length (now (scaffold .entry))) (now (sets .exit)) ≡ drop (length (now (scaffold .entry))) (now (sets .entry)) ⌝ }
 {
     fill_sets(
         z,

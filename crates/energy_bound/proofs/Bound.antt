@@ -1,33 +1,48 @@
--- The bound of specs, for every sequence: `stringDnaDgDs dna` is what the contract of `string_dna_dg_ds` says that it answers. Assumes nothing.
+-- The bound of specs, for every sequence, of the contract of `string_dna_dg_ds` itself. Assumes nothing.
 use Prim.Native.Nat.{ℕ, suc, _-_, _≤_}
-use mathlib.Core.Path.{_≡_, refl}
+use mathlib.Core.Path.{_≡_, refl, ap}
 use mathlib.Core.List.{List}
 use native.Mathlib.Omega.{arith}
 use lib.Dec.{lit≤}
+use lib.Ieee.{binary64, add}
 use lib.ListN.{length}
+use contract.Lifetimes.{Lfts}
+use denote.Ref.{now}
+use denote.Triple.Clauses.{AtExit}
+use borrow.Fn.Kinds.{Dens, resT, endedOf}
 use Rattle.floats.proofs.Distances.{close-coarser}
 use Rattle.units.specs.declared.BaseEnergy.{BaseEnergy}
 use Rattle.units.specs.declared.BaseEnergyAnswer.the-variants.{Found}
 use Rattle.units.specs.Refusals.{Verdict, passes, refuses}
 use Rattle.units.specs.Answers.{baseEnergyAnswer}
+use Rattle.units.specs.Decimals.{minus}
+use Rattle.bases.specs.declared.DnaNucleotideBase.{DnaNucleotideBase}
 use Rattle.bases.specs.Bases.{baseAt}
-use Rattle.step_values.specs.Steps.{stepOf, dgDs, start, startHundredths, noEnergy}
+use Rattle.step_values.specs.Steps.{dgDs, start, noEnergy}
+use Rattle.step_values.specs.Published.{publishedStartDg}
 use Rattle.step_values.proofs.StepTables.{step-at-most}
-use Rattle.energy_hundredths.specs.Hundredths.{stepsHundredths}
-use Rattle.utils.specs.Single.{stepsSum, singleEnergy, singleVerdict, stringDnaDgDs}
+use Rattle.step_values.proofs.Published.{as-published}
+use Rattle.single_sequence.specs.Single.{stepsSum, singleEnergy, singleVerdict}
+use Rattle.utils.specs.Single.{stringDnaDgDs}
 use Rattle.utils.proofs.Refused.{single-short}
+use Rattle.utils.proofs.string_dna_dg_ds.Kinds as kinds
+use Rattle.utils.proofs.string_dna_dg_ds.Reads as reads
+use Rattle.published_sums.specs.PublishedSums.{publishedDg, wholeTo}
 use Rattle.energy_bound.specs.Bound.{DeltaGBound}
 use Rattle.energy_bound.proofs.Sums.{Running, all-close}
 
-steps-run : (dna : List ℕ) → Running (λ i. stepOf (baseAt dna i) (baseAt dna (suc i)) .dg) (stepsHundredths dna) (λ n. stepsSum dna n .dg)
-unfolding stepsSum stepsHundredths dgDs noEnergy
+published-at-most : (a b : DnaNucleotideBase) → publishedDg a b ≤ 224
+published-at-most a b = rw (← as-published a b .dg) (step-at-most a b)
+
+steps-run : (dna : List ℕ) → Running (λ i. publishedDg (baseAt dna i) (baseAt dna (suc i))) (wholeTo publishedDg dna) (λ n. stepsSum dna n .dg)
+unfolding stepsSum wholeTo dgDs noEnergy
 steps-run dna =
     record {
-      small = λ i. step-at-most (baseAt dna i) (baseAt dna (suc i));
+      small = λ i. published-at-most (baseAt dna i) (baseAt dna (suc i));
       none = refl;
       more = λ i. refl;
       start = refl;
-      next = λ i. refl;
+      next = λ i. ap (λ h. add binary64 (minus h 100) (stepsSum dna i .dg)) (as-published (baseAt dna i) (baseAt dna (suc i)) .dg);
     }
 
 answered : (v : Verdict) (e energy : BaseEnergy) → baseEnergyAnswer v e ≡ Found energy → v ≡ passes
@@ -38,9 +53,14 @@ found : (v : Verdict) (e energy : BaseEnergy) → baseEnergyAnswer v e ≡ Found
 found passes e energy h = cc
 found (refuses number values) e energy h = cc
 
-pub delta-g-bound : (dna : List ℕ) → DeltaGBound dna (stringDnaDgDs dna)
+by-definition : (dna : List ℕ) → DeltaGBound dna (stringDnaDgDs dna)
 unfolding start
-delta-g-bound dna energy h =
+by-definition dna energy h =
     let few : length dna ≤ 256 = single-short dna (answered (singleVerdict dna) (singleEnergy dna) energy h) in
     rw (← found (singleVerdict dna) (singleEnergy dna) energy h)
-    (close-coarser (lit≤ tt) (lit≤ tt) (all-close (steps-run dna) (length dna - 1) startHundredths (omega arith) (lit≤ tt)))
+    (close-coarser (lit≤ tt) (lit≤ tt) (all-close (steps-run dna) (length dna - 1) publishedStartDg (omega arith) (lit≤ tt)))
+
+-- Of any result that meets the contract of `string_dna_dg_ds`, the bound holds.
+pub delta-g-bound : (κs : Lfts 1) (lent : Dens κs kinds.ps) (answer : resT kinds.r κs .Denot) (exit : AtExit (endedOf 1 kinds.ps kinds.r) κs)
+    → reads.Post κs lent answer exit → DeltaGBound (now (lent .0)) answer
+delta-g-bound κs lent answer exit post = rw (post .1) (by-definition (now (lent .0)))

@@ -1,18 +1,17 @@
 -- How far the answered ΔG of a sequence is from what the published decimals add up to. Assumes nothing.
-use Prim.Native.Nat.{ℕ, _-_, _^_}
+use Prim.Native.Nat.{ℕ, _^_}
 use mathlib.Core.Path.{_≡_}
 use mathlib.Core.List.{List}
-use lib.ListN.{length}
 use Rattle.floats.specs.Fractions.{Fraction, Close}
 use Rattle.units.specs.declared.BaseEnergy.{BaseEnergy}
 use Rattle.units.specs.declared.BaseEnergyAnswer.{BaseEnergyAnswer}
 use Rattle.units.specs.declared.BaseEnergyAnswer.the-variants.{Found}
-use Rattle.step_values.specs.Steps.{startHundredths}
-use Rattle.energy_hundredths.specs.Hundredths.{stepsHundredths}
+use Rattle.step_values.specs.Published.{publishedStartDg}
+use Rattle.published_sums.specs.PublishedSums.{publishedDg, whole}
 
--- ΔG in kcal/mol with nothing rounded, a fraction over 100: 196 hundredths for the start, less those of each step
+-- ΔG in kcal/mol with nothing rounded, a fraction over 100: the published hundredths of the start, less those of each step
 abbrev pub exactDeltaG : List ℕ → Fraction
-exactDeltaG dna = record { plus = startHundredths; less = stepsHundredths dna (length dna - 1); per = 100 }
+exactDeltaG dna = record { plus = publishedStartDg; less = whole publishedDg dna; per = 100 }
 
 -- Of a sequence and what `string_dna_dg_ds` answered for it: where it is answered (it then has 2 to 256 letters), ΔG is a number,
 -- and off by at most 2 ^ -35 kcal/mol, some 3·10^-11, from the exact sum.

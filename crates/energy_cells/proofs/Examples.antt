@@ -8,7 +8,7 @@ use lib.ListN.{replicate}
 use Rattle.units.specs.Decimals.{decimal, plus, minus}
 use Rattle.units.specs.Finite.{finite}
 use Rattle.units.specs.Refusals.{passes, refuses}
-use Rattle.utils.specs.Single.{singleEnergy}
+use Rattle.single_sequence.specs.Single.{singleEnergy}
 use Rattle.entries.specs.Entries.{offsetsFrom, areFlags, sameBytes}
 use Rattle.sdc_common.specs.Stars.{beforeStars}
 use Rattle.base_list.specs.Bases.{basesFitFrom, findFrom}

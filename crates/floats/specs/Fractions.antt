@@ -1,5 +1,5 @@
--- Fractions with a sign over whole numbers, and how far a float is from one. A fraction is (plus − less) / per, so that nothing is ever taken away,
--- and two of them are compared with the denominators multiplied out. A denominator is meant to be above 0. Assumes nothing.
+-- Fractions with a sign over whole numbers, and how far a float is from one. A fraction is (plus − less) / per, so that a difference needs no whole number
+-- below 0, and two of them are compared with the denominators multiplied out. A denominator is meant to be above 0. Assumes nothing.
 use Prim.Native.Nat.{ℕ, _+_, _-_, _*_, _≤_}
 use mathlib.Core.Path.{_≡_}
 use mathlib.Core.Bool.{Bool, true, false}

@@ -16,7 +16,7 @@ OffByHalf f a x =
     → Within (2 ^ (m + suc (prec f))) (2 ^ i) a nothing
     → Close (2 ^ m) (2 ^ i) x a
 
--- A rounded operation is off by at most half a unit in the last place: each against what it is without rounding.
+-- A rounded operation is off by at most half a unit in the last place, up to results of size 2 ^ emax: each against what it is without rounding.
 pub record HalfUnit (f : Format) : Type 0 where
   pub rounded : (negative : Bool) (n d : ℕ) → 0 < d → OffByHalf f (signed negative n d) (round f negative n d)
   pub added : (x y : Float) → finite x ≡ true → finite y ≡ true → OffByHalf f (sum (exact x) (exact y)) (add f x y)

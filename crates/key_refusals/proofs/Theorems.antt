@@ -5,7 +5,8 @@ use mathlib.Core.List.{List}
 use Rattle.units.specs.declared.BaseEnergyAnswer.the-variants.{Found}
 use Rattle.units.specs.Refusals.{passes}
 use Rattle.units.specs.Answers.{baseEnergyAnswer}
-use Rattle.utils.specs.Single.{singleEnergy, stringDnaDgDs}
+use Rattle.single_sequence.specs.Single.{singleEnergy}
+use Rattle.utils.specs.Single.{stringDnaDgDs}
 use Rattle.utils.proofs.Refused.{single-passes}
 use Rattle.entries.specs.Entries.{part}
 use Rattle.key_values.specs.declared.GsOrSeq.the-variants.{Seq}

@@ -6,7 +6,7 @@ use lib.Ieee.{Float}
 use lib.ListN.{length}
 use Rattle.units.specs.Finite.{finite}
 use Rattle.units.specs.Refusals.{Verdict, passes, refuseIf, _▷_}
-use Rattle.utils.specs.Single.{sequenceVerdict}
+use Rattle.single_sequence.specs.Single.{sequenceVerdict}
 use Rattle.entries.specs.Entries.{part}
 use Rattle.key_values.specs.declared.GsOrSeq.{GsOrSeq}
 use Rattle.key_values.specs.declared.GsOrSeq.the-variants.{Gs, Seq}

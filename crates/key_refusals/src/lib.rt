@@ -9,10 +9,10 @@ ghost use Rattle.key_values.specs.Values.{values, valueFits};
 ghost use Rattle.key_refusals.specs.Refusals.{numbersVerdict, valueVerdict, keyVerdict, valuesVerdict};
 use key_values::GsOrSeq;
 use key_values::value_at;
+use single_sequence::check_single;
 use units::Check;
 use units::Refusal;
 use units::is_finite;
-use utils::check_single;
 
 // Refusal 3 with the key's place where a number is not finite.
 fn check_numbers(dg: f64, ds: f64, key: usize) -> Check

@@ -6,7 +6,7 @@ use lib.Dec.{eqb, leb}
 use lib.Ieee.{Float, nan}
 use lib.ListN.{getD}
 use Rattle.units.specs.declared.BaseEnergy.{BaseEnergy}
-use Rattle.utils.specs.Single.{singleEnergy}
+use Rattle.single_sequence.specs.Single.{singleEnergy}
 use Rattle.entries.specs.Entries.{part}
 use Rattle.key_values.specs.declared.GsOrSeq.{GsOrSeq}
 use Rattle.key_values.specs.declared.GsOrSeq.the-variants.{Gs, Seq}

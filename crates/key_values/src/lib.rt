@@ -5,8 +5,8 @@ ghost use Prim.Native.Nat.{_+_, _<_};
 ghost use lib.ListN.{length};
 ghost use Rattle.entries.specs.Entries.{offsetsFit};
 ghost use Rattle.key_values.specs.Values.{values, valueAt, valueFits, gsOrSeqToGs, keyEnergy};
+use single_sequence::single_energy;
 use units::BaseEnergy;
-use utils::single_energy;
 
 // ΔG and ΔS, or the offsets of a sequence in the sequences' text.
 pub enum GsOrSeq {

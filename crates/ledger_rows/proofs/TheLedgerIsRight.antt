@@ -165,6 +165,7 @@ module _ (z : Scan) where
           answered-sum = answered-sum;
           no-smaller = λ g f l. smallest g f l .1;
           answer-there = in-windows n (answerRow z n .who) (subst (λ r. r < size z n (suc (z .kept))) (sym is-row) (chose .1 .within));
+          least-row = λ g i h. rw is-answer (chose .1 .least (subst (λ x. Good x) is-answer g) i (in-block n i h) .1);
           first-row = λ g i h. rw is-answer (chose .1 .first (subst (λ x. Good x) is-answer g) i (subst (λ r. i < r) is-row h));
           refused = (refused-by, refused-if);
         }

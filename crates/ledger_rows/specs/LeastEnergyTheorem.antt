@@ -76,6 +76,7 @@ pub record LeastEnergyTheorem (z : Scan) (n : ℕ) : Type 0 where
   pub no-smaller : Answered z n → (f : List ℕ) → Legal z n f → le (answer z n) (scanSum z f) ≡ true
   -- "the answer is the first least row of the last block"
   pub answer-there : answerRow z n .who < length (windows z n)
+  pub least-row : Answered z n → (i : ℕ) → i < length (windows z n) → le (answer z n) (heldAt (energies z n) i) ≡ true
   pub first-row : Answered z n → (i : ℕ) → i < answerRow z n .who → lt (answer z n) (heldAt (energies z n) i) ≡ true
   -- "refused with 10 exactly when some legal layout's scan sum is NaN or minus infinity"
   pub refused : Bad (answer z n) ↔ ((f : List ℕ) × Legal z n f × Bad (scanSum z f))

@@ -10,7 +10,7 @@ use Rattle.bay_lists.specs.Lists.{Constraints}
 use Rattle.scan_order.specs.Scan.{bayAt}
 use Rattle.legal_at.specs.Legal.{isLegal}
 
--- a strand for each bay, row by row, each of which may lie there, as any test has it
+-- a strand for each bay, row by row, each of which may lie there by the test `may`
 pub record LayoutBy (s : System) (may : (bay strand : ℕ) → Bool) (layout : List ℕ) : Type 0 where
   pub long : length layout ≡ bays (s .sizes)
   pub each : (bay : ℕ) → bay < bays (s .sizes) → may bay (getD layout bay 0) ≡ true
@@ -19,10 +19,10 @@ pub record LayoutBy (s : System) (may : (bay strand : ℕ) → Bool) (layout : L
 abbrev pub LegalLayout : System → Constraints → (layout : List ℕ) → Type 0
 LegalLayout s c layout = LayoutBy s (isLegal s c) layout
 
--- a strand for each of the first k bays in scan order, each legal where it lies
-pub record LegalFilling (s : System) (c : Constraints) (k : ℕ) (filling : List ℕ) : Type 0 where
-  pub long : length filling ≡ k
-  pub each : (j : ℕ) → j < k → isLegal s c (bayAt (s .sizes .rows) (s .sizes .cols) j) (getD filling j 0) ≡ true
+-- a strand for each of the first `count` bays in scan order, each legal where it lies
+pub record LegalFilling (s : System) (c : Constraints) (count : ℕ) (filling : List ℕ) : Type 0 where
+  pub long : length filling ≡ count
+  pub each : (j : ℕ) → j < count → isLegal s c (bayAt (s .sizes .rows) (s .sizes .cols) j) (getD filling j 0) ≡ true
 
 -- the legal strands of the bay that is scanned as number k, by rising number
 abbrev pub legalStrands : System → Constraints → (k : ℕ) → List ℕ

@@ -1,7 +1,7 @@
 -- A single mismatch: its penalty, and the table of penalties. Assumes nothing.
 use Prim.Native.Nat.{ℕ, suc, _+_, _*_}
 use mathlib.Core.Bool.{cond}
-use mathlib.Core.List.{List, [], _∷_, map}
+use mathlib.Core.List.{List, [], _∷_}
 use lib.IntN.{ℤ, pos, negsuc, negℤ}
 use lib.Ieee.{Float}
 use lib.ListN.{getD}

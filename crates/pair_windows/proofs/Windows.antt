@@ -14,9 +14,9 @@ use Rattle.loop_values.specs.declared.LoopPenalty.the-variants.{Value, NoValue}
 use Rattle.pair_windows.specs.declared.PairSum.{PairSum}
 use Rattle.pair_windows.specs.declared.PairSum.the-variants.{Going, NoLoopValue}
 use Rattle.bases.specs.Bases.{baseAt}
-use Rattle.step_values.specs.Steps.{dgDs, addEnergy}
+use Rattle.step_values.specs.Steps.{dgDs}
 use Rattle.loop_values.specs.Loops.{loopPenalty}
-use Rattle.pair_windows.specs.Windows.{closedBy, matched, bothMatch, afterWindow, badIn, windowsSum}
+use Rattle.pair_windows.specs.Windows.{closedBy, bothMatch, afterWindow, badIn, windowsSum}
 
 pub windows-more : (a b : List ℕ) (i : ℕ)
     → windowsSum a b (i + 1) ≡ afterWindow (windowsSum a b i) (baseAt a i) (baseAt a (i + 1)) (baseAt b i) (baseAt b (i + 1))
@@ -24,9 +24,9 @@ unfolding windowsSum
 windows-more a b i = rw (add-one i)
 
 -- a window adds at most one to the bad windows that came last
-closed-none : (sum : BaseEnergy) (n : ℕ) (p : LoopPenalty) → badIn (closedBy sum n p) ≡ 0
-closed-none sum n (Value x) = refl
-closed-none sum n NoValue = refl
+closed-none : (sum step : BaseEnergy) (n : ℕ) (p : LoopPenalty) → badIn (closedBy sum step n p) ≡ 0
+closed-none sum step n (Value x) = refl
+closed-none sum step n NoValue = refl
 
 picked : (t u : Bool) (x y z : PairSum) (n : ℕ) → badIn x ≡ 0 → badIn y ≡ 0 → badIn z ≤ n → badIn (cond t (cond u x y) z) ≤ n
 picked true true x y z n p q h = omega arith
@@ -35,7 +35,7 @@ picked false u x y z n p q h = h
 
 one-more : (sum : PairSum) (a1 a2 b1 b2 : DnaNucleotideBase) → badIn (afterWindow sum a1 a2 b1 b2) ≤ badIn sum + 1
 one-more (Going sum bad) a1 a2 b1 b2 =
-    let closed = closed-none (addEnergy sum (dgDs a1 a2)) (bad - 1) (loopPenalty (bad - 1)) in
+    let closed = closed-none sum (dgDs a1 a2) (bad - 1) (loopPenalty (bad - 1)) in
     picked (bothMatch a1 a2 b1 b2) (ltb 2 bad) _ _ _ (bad + 1) closed refl (omega arith)
 one-more (NoLoopValue n) a1 a2 b1 b2 = omega arith
 

@@ -20,16 +20,16 @@ use Rattle.loop_values.specs.Loops.{loopPenalty}
 abbrev pub addToDg : BaseEnergy → Float → BaseEnergy
 addToDg sum dg = record { dg = add binary64 (sum .dg) dg; ds = sum .ds }
 
--- a closed loop of this length adds its value, or ends the sum where it has none
-abbrev pub closedBy : BaseEnergy → ℕ → LoopPenalty → PairSum
-closedBy sum length (Value penalty) = Going (addToDg sum penalty) 0
-closedBy sum length NoValue = NoLoopValue length
+-- a step that closes a loop of this length is added, then the loop's value; the sum ends where the loop has none
+abbrev pub closedBy : (sum step : BaseEnergy) → ℕ → LoopPenalty → PairSum
+closedBy sum step length (Value penalty) = Going (addToDg (addEnergy sum step) penalty) 0
+closedBy sum step length NoValue = NoLoopValue length
 
 -- a step that matches after `bad` windows that do not: it closes a loop where those are more than 2
 abbrev pub matched : BaseEnergy → ℕ → (a1 a2 : DnaNucleotideBase) → PairSum
 matched sum bad a1 a2 =
     cond (ltb 2 bad)
-    (closedBy (addEnergy sum (dgDs a1 a2)) (bad - 1) (loopPenalty (bad - 1)))
+    (closedBy sum (dgDs a1 a2) (bad - 1) (loopPenalty (bad - 1)))
     (Going (addEnergy sum (dgDs a1 a2)) 0)
 
 -- both letters of a window bind

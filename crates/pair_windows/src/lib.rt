@@ -30,12 +30,14 @@ fn add_to_dg(sum: BaseEnergy, dg: f64) -> BaseEnergy
     }
 }
 
-// The sum with what a closed loop of this length adds.
-fn closed_by(sum: BaseEnergy, length: usize) -> PairSum
-    ensures { λ r. ⌜ r ≡ closedBy sum length (loopPenalty length) ⌝ }
+// The sum with a step that closes a loop of this length, and then with what the loop adds.
+fn closed_by(sum: BaseEnergy, step: BaseEnergy, length: usize) -> PairSum
+    ensures { λ r. ⌜ r ≡ closedBy sum step length (loopPenalty length) ⌝ }
 {
     match loop_penalty(length) {
-        LoopPenalty::Value(penalty) => PairSum::Going(add_to_dg(sum, penalty), 0),
+        LoopPenalty::Value(penalty) => {
+            PairSum::Going(add_to_dg(add_energy(sum, step), penalty), 0)
+        }
         LoopPenalty::NoValue => PairSum::NoLoopValue(length),
     }
 }
@@ -44,11 +46,11 @@ fn closed_by(sum: BaseEnergy, length: usize) -> PairSum
 fn matched(sum: BaseEnergy, bad: usize, a1: DnaNucleotideBase, a2: DnaNucleotideBase) -> PairSum
     ensures { λ r. ⌜ r ≡ matched sum bad a1 a2 ⌝ }
 {
-    let with_step = add_energy(sum, dg_ds(a1, a2));
+    let step = dg_ds(a1, a2);
     if 2 < bad {
-        closed_by(with_step, bad - 1)
+        closed_by(sum, step, bad - 1)
     } else {
-        PairSum::Going(with_step, 0)
+        PairSum::Going(add_energy(sum, step), 0)
     }
 }
 

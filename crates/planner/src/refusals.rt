@@ -157,7 +157,7 @@ fn is_sequence(keys: &[u8], at: usize) -> bool {
     if n == 0 {
         return true;
     }
-    match utils::check_single(first_bytes(&letters, n), 0) {
+    match single_sequence::check_single(first_bytes(&letters, n), 0) {
         Check::Passed => true,
         Check::Refused(_) => false,
     }

@@ -7,7 +7,7 @@ use lib.Dec.{leb}
 abbrev pub byRows : (rows cols : ℕ) → Bool
 byRows rows cols = leb cols rows
 
--- the shorter side: how long a major line is
+-- the shorter side, the smaller of rows and columns: how long a major line is
 abbrev pub window : (rows cols : ℕ) → ℕ
 window rows cols = cond (byRows rows cols) cols rows
 

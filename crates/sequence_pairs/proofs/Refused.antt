@@ -13,7 +13,8 @@ use Rattle.letters.proofs.Limits.{length-tabled, letters-tabled, not-longer}
 use Rattle.pair_windows.specs.declared.PairSum.{PairSum}
 use Rattle.pair_windows.specs.declared.PairSum.the-variants.{Going, NoLoopValue}
 use Rattle.pair_windows.specs.Windows.{pairSum}
-use Rattle.sequence_pairs.specs.Pair.{unequalVerdict, pairLetters, pairTests, loopsVerdict, pairVerdict}
+use Rattle.pair_checks.specs.Tests.{unequalVerdict, pairLetters, pairTests}
+use Rattle.sequence_pairs.specs.Pair.{loopsVerdict, pairVerdict}
 
 tests-tabled : (a b : List ℕ) → Tabled (pairTests a b)
 tests-tabled a b =

@@ -2,10 +2,10 @@
 ghost use Prim.Native.Nat.{_≤_};
 ghost use mathlib.Core.Path.{_≡_};
 ghost use lib.ListN.{length};
-ghost use Rattle.io.specs.Counts.{Counts};
+ghost use Rattle.io.specs.Counts.{Counts, clamped};
 ghost use Rattle.answer_texts.specs.Puts.{Put};
 ghost use Rattle.sheet_files.specs.Paths.{pathOf};
-ghost use Rattle.sheet_files.specs.Rooms.{LeavesRoom};
+ghost use Rattle.sheet_files.specs.Rooms.{LeavesRoom, NothingUnopened, fails};
 use answer_texts::put_text;
 
 // What became of a file: whether it could be opened, whether it was read to its end, and how many bytes were read. Where these
@@ -31,21 +31,31 @@ pub fn put_path(folder: &[u8], name: &[u8], path: &mut [u8]) -> usize
     put_text(path, from, name)
 }
 
-// Reads once.
-fn read_part(file: i32, room: &mut [u8]) -> Part
+// What the C library's answer to a read says.
+fn part_of(got: isize, room: &[u8]) -> Part
+    ensures { λ r. ⌜ r .failed ≡ fails got ⌝ }
+    ensures { λ r. ⌜ r .bytes ≡ clamped got (length (now (room .entry))) ⌝ }
     ensures { λ r. ⌜ r .bytes ≤ length (now (room .entry)) ⌝ }
 {
-    let got = libc::read(file, room);
     Part {
         failed: got < 0,
         bytes: io::count(got, room),
     }
 }
 
+// Reads once.
+fn read_part(file: i32, room: &mut [u8]) -> Part
+    ensures { λ r. ⌜ r .bytes ≤ length (now (room .entry)) ⌝ }
+{
+    let got = libc::read(file, room);
+    part_of(got, room)
+}
+
 // Reads a file to its end, or until the room is full or a read fails.
 fn read_open(file: i32, room: &mut [u8]) -> FileRead
     ensures { λ r. ⌜ Counts (r .bytes) (now (room .exit)) ⌝ }
     ensures { λ r. ⌜ LeavesRoom (r .whole) (r .bytes) (now (room .exit)) ⌝ }
+    ensures { λ r. ⌜ NothingUnopened (r .opened) (r .bytes) ⌝ }
 {
     let mut done = 0;
     while done < room.len() {
@@ -70,6 +80,7 @@ fn read_open(file: i32, room: &mut [u8]) -> FileRead
 fn read_path(path: &[u8], room: &mut [u8]) -> FileRead
     ensures { λ r. ⌜ Counts (r .bytes) (now (room .exit)) ⌝ }
     ensures { λ r. ⌜ LeavesRoom (r .whole) (r .bytes) (now (room .exit)) ⌝ }
+    ensures { λ r. ⌜ NothingUnopened (r .opened) (r .bytes) ⌝ }
 {
     let file = os::open_read(path);
     if file < 0 {
@@ -88,6 +99,7 @@ fn read_path(path: &[u8], room: &mut [u8]) -> FileRead
 pub fn read_file(folder: &[u8], name: &[u8], room: &mut [u8]) -> FileRead
     ensures { λ r. ⌜ Counts (r .bytes) (now (room .exit)) ⌝ }
     ensures { λ r. ⌜ LeavesRoom (r .whole) (r .bytes) (now (room .exit)) ⌝ }
+    ensures { λ r. ⌜ NothingUnopened (r .opened) (r .bytes) ⌝ }
 {
     let mut path = io::buffer();
     let end = put_path(folder, name, &mut path);

@@ -64,5 +64,5 @@ pub record FirstFault (columns rows : ℕ) (text : List ℕ) (line number : ℕ)
   pub all : text ≡ before ++ rest
   -- what stands before the place is the beginning of a sheet of the grid
   pub right-before : BeginsSheet columns rows before
-  -- and what stands there goes on with none
+  -- and what stands there is wrong: no sheet of the grid is the text (`no-sheet` in proofs/FirstFault.antt)
   pub wrong-here : WrongSheet columns rows before rest line number

@@ -4,7 +4,7 @@ use mathlib.Core.Bool.{Bool, true, false}
 use mathlib.Core.List.{List, [], _∷_, _++_, map}
 use lib.IntN.{pos}
 use lib.Ieee.{Float, nan, inf, fin, binary64, ofBits}
-use lib.ListN.{replicate}
+use lib.ListN.{length, replicate}
 use Rattle.units.specs.declared.EnergyAnswer.{EnergyAnswer}
 use Rattle.units.specs.declared.EnergyAnswer.the-variants.{Energy, Refused}
 use Rattle.units.specs.Decimals.{plus, minus}
@@ -51,8 +51,7 @@ free = constraints false [] []
 
 -- the list of the one bay
 abbrev listed : List ℕ → Constraints
-listed [] = constraints true (0 ∷ 0 ∷ []) []
-listed (tile ∷ tiles) = constraints true (0 ∷ 1 ∷ []) (tile ∷ [])
+listed tiles = constraints true (0 ∷ length tiles ∷ []) tiles
 
 -- the answer where the lent slices fit one bay with two rows, and what the call leaves in the lent layout, which held 7
 abbrev least : System → Constraints → Outcome

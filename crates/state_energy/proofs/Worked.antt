@@ -1,9 +1,11 @@
 -- Layouts worked out: the definitions compute, and say what document 01 says. Assumes nothing.
-use Prim.Native.Nat.{ℕ, _*_, _^_}
+use Prim.Native.Nat.{ℕ, zero, suc, _*_, _^_}
 use mathlib.Core.Path.{_≡_, refl}
-use mathlib.Core.Bool.{true, false}
+use mathlib.Core.Bool.{Bool, true, false, cond, _||_}
 use mathlib.Core.List.{List, [], _∷_}
+use lib.Dec.{eqb}
 use lib.IntN.{pos, negsuc}
+use lib.ListN.{replicate}
 use lib.Ieee.{Float, nan, inf, fin, add, sub, mul, div, le}
 use Rattle.units.specs.declared.EnergyAnswer.{EnergyAnswer}
 use Rattle.units.specs.declared.EnergyAnswer.the-variants.{Energy, Refused}
@@ -17,6 +19,11 @@ use Rattle.sdc2d.specs.System.{System, system, firstBadSeed}
 use Rattle.beta_energies.specs.Energies.{bayEnergy, edgeEnergy, noEnergy}
 use Rattle.listing_sum.specs.Listing.{withWest, withNorth, listing}
 use Rattle.state_energy.specs.StateG.{stateG}
+
+-- n values of f, from one on
+unfoldable pub cells : (ℕ → Float) → (from n : ℕ) → List Float
+cells f from zero = []
+cells f from (suc n) = f from ∷ cells f (suc from) n
 
 -- One row of bays with glue 1; strand 1 has bottom glue 1, east glue 1 and west glue 0. Cell (1, 1) is its scaffold bond, cell (1, 0) the bond of two side by side.
 abbrev row : (bays : ℕ) → (scaffold : List ℕ) → (kelvin own side log : Float) → System
@@ -78,41 +85,42 @@ pub overflow-before-the-bond : two (minus (7 * 10 ^ 307) 1) (plus (7 * 10 ^ 307)
 unfolding decimal finite gasConstant firstFailing isLog firstBadSeed bayEnergy edgeEnergy noEnergy withWest withNorth listing add sub mul div le
 overflow-before-the-bond = refl
 
--- the smallest negative sum, at 200 kelvin: times (R·T) it is minus zero
+-- the negative sum nearest to zero, at 200 kelvin: times (R·T) it is minus zero
 pub minus-zero : stateG (row 1 (1 ∷ []) (plus 200 1) (plus 0 1) (plus 0 1) (fin false 1 (negsuc 1073))) (1 ∷ []) ≡ Energy (fin true 0 (pos 0))
 unfolding decimal finite gasConstant firstFailing isLog firstBadSeed bayEnergy edgeEnergy noEnergy withWest withNorth listing add sub mul div le
 minus-zero = refl
 
--- Strand 1 has east and south glue 1, strand 2 north, west and bottom glue 2, and all others are 0. Cell (1, 2) has −1 kcal/mol and cell (2, 1) −2; no other
--- cell has any.
+-- Each side has a glue of its own: strand 1 has 1 to 5, strand 2 has 6 to 10, north, east, south, west, bottom. Of 12 × 12 cells (2, 9), (3, 6) and (11, 10)
+-- have −1 kcal/mol, their mirrors −2, and no other cell has any.
 abbrev ordered : (rows cols : ℕ) → (scaffold layout : List ℕ) → EnergyAnswer
 ordered rows cols scaffold layout =
     let o = plus 0 1 in
-    let zeros = o ∷ o ∷ o ∷ o ∷ o ∷ o ∷ o ∷ o ∷ o ∷ [] in
+    let one : ℕ → Bool = λ i. eqb i 33 || (eqb i 42 || eqb i 142) in
+    let mirror : ℕ → Bool = λ i. eqb i 110 || (eqb i 75 || eqb i 131) in
     stateG
-    (system (record { rows = rows; cols = cols; strands = 3; glues = 3; kelvin = plus 31015 100 }) (0 ∷ 0 ∷ 0 ∷ 0 ∷ 0 ∷ 0 ∷ 1 ∷ 1 ∷ 0 ∷ 0 ∷ 2 ∷ 0 ∷ 0 ∷ 2 ∷ 2 ∷ []) scaffold
-    (o ∷ o ∷ o ∷ o ∷ o ∷ minus 1 1 ∷ o ∷ minus 2 1 ∷ o ∷ []) zeros (nan ∷ o ∷ o ∷ []) [])
+    (system (record { rows = rows; cols = cols; strands = 3; glues = 12; kelvin = plus 31015 100 }) (0 ∷ 0 ∷ 0 ∷ 0 ∷ 0 ∷ 1 ∷ 2 ∷ 3 ∷ 4 ∷ 5 ∷ 6 ∷ 7 ∷ 8 ∷ 9 ∷ 10 ∷ []) scaffold
+    (cells (λ i. cond (one i) (minus 1 1) (cond (mirror i) (minus 2 1) o)) 0 144) (replicate 144 o) (nan ∷ o ∷ o ∷ []) [])
     layout
 
--- the index order: the west strand's east glue, then the east strand's west glue; with the strands exchanged it is cell (0, 0)
+-- the index order: the west strand's east glue, then the east strand's west glue; with the strands exchanged a cell of zero
 pub west-then-east : ordered 1 2 (0 ∷ 0 ∷ []) (1 ∷ 2 ∷ []) ≡ Energy (fin true 1 (pos 0))
-unfolding decimal finite gasConstant firstFailing isLog firstBadSeed bayEnergy edgeEnergy noEnergy withWest withNorth listing add sub mul div le
+unfolding cells decimal finite gasConstant firstFailing isLog firstBadSeed bayEnergy edgeEnergy noEnergy withWest withNorth listing add sub mul div le
 west-then-east = refl
 
 pub east-strand-in-the-west : ordered 1 2 (0 ∷ 0 ∷ []) (2 ∷ 1 ∷ []) ≡ Energy (fin false 0 (pos 0))
-unfolding decimal finite gasConstant firstFailing isLog firstBadSeed bayEnergy edgeEnergy noEnergy withWest withNorth listing add sub mul div le
+unfolding cells decimal finite gasConstant firstFailing isLog firstBadSeed bayEnergy edgeEnergy noEnergy withWest withNorth listing add sub mul div le
 east-strand-in-the-west = refl
 
 -- the north strand's south glue, then the south strand's north glue
 pub north-then-south : ordered 2 1 (0 ∷ 0 ∷ []) (1 ∷ 2 ∷ []) ≡ Energy (fin true 1 (pos 0))
-unfolding decimal finite gasConstant firstFailing isLog firstBadSeed bayEnergy edgeEnergy noEnergy withWest withNorth listing add sub mul div le
+unfolding cells decimal finite gasConstant firstFailing isLog firstBadSeed bayEnergy edgeEnergy noEnergy withWest withNorth listing add sub mul div le
 north-then-south = refl
 
 pub south-strand-in-the-north : ordered 2 1 (0 ∷ 0 ∷ []) (2 ∷ 1 ∷ []) ≡ Energy (fin false 0 (pos 0))
-unfolding decimal finite gasConstant firstFailing isLog firstBadSeed bayEnergy edgeEnergy noEnergy withWest withNorth listing add sub mul div le
+unfolding cells decimal finite gasConstant firstFailing isLog firstBadSeed bayEnergy edgeEnergy noEnergy withWest withNorth listing add sub mul div le
 south-strand-in-the-north = refl
 
 -- the bay's glue, then the strand's bottom glue
-pub bay-then-strand : ordered 1 1 (1 ∷ []) (2 ∷ []) ≡ Energy (fin true 1 (pos 0))
-unfolding decimal finite gasConstant firstFailing isLog firstBadSeed bayEnergy edgeEnergy noEnergy withWest withNorth listing add sub mul div le
+pub bay-then-strand : ordered 1 1 (11 ∷ []) (2 ∷ []) ≡ Energy (fin true 1 (pos 0))
+unfolding cells decimal finite gasConstant firstFailing isLog firstBadSeed bayEnergy edgeEnergy noEnergy withWest withNorth listing add sub mul div le
 bay-then-strand = refl

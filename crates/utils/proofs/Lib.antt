@@ -1,4 +1,3 @@
-pub mod Sums
 pub mod Refused
 pub mod Unique
 pub mod Starred

@@ -12,7 +12,7 @@ use Rattle.units.specs.Kelvin.{kelvinVerdict, inKelvinRange}
 use Rattle.units.proofs.Verdicts.{Tabled, tabled-if, tabled-then, no-fault, first-passes, rest-passes}
 use Rattle.letters.specs.Letters.{lengthVerdict, lettersVerdict, firstBad}
 use Rattle.letters.proofs.Limits.{length-tabled, letters-tabled, not-longer}
-use Rattle.utils.specs.Single.{shortVerdict, sequenceVerdict, singleVerdict, singleAtVerdict}
+use Rattle.single_sequence.specs.Single.{shortVerdict, sequenceVerdict, singleVerdict, singleAtVerdict}
 
 pub sequence-tabled : (sequence : ℕ) (dna : List ℕ) → Tabled (sequenceVerdict sequence dna)
 sequence-tabled sequence dna =

@@ -11,7 +11,7 @@ use Rattle.mismatch_values.specs.Mismatches.{calcPenalty, penaltyTable}
 use Rattle.loop_values.specs.Loops.{loopPenalty, upTo, lengths, loopTable}
 use Rattle.pair_windows.specs.Windows.{windowsSum}
 use Rattle.energy_hundredths.specs.Hundredths.{stepsHundredths, endTerm}
-use Rattle.utils.specs.Starred.{Outcome, Case, starred}
+use Rattle.utils.specs.Starred.{Case, starred}
 
 pub starred-cases-hold : map (λ (c : Case). c .given) starred ≡ map (λ (c : Case). c .printed) starred
 unfolding starred ofBits add decimal baseOf isLetter firstFailing noEnergy stepOf dgDs calcPenalty penaltyTable loopPenalty upTo lengths loopTable windowsSum stepsHundredths endTerm

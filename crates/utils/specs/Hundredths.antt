@@ -4,7 +4,7 @@ use mathlib.Core.List.{List}
 use Rattle.units.specs.declared.HundredthsAnswer.{HundredthsAnswer}
 use Rattle.units.specs.Answers.{hundredthsAnswer}
 use Rattle.energy_hundredths.specs.Hundredths.{singleHundredths}
-use Rattle.utils.specs.Single.{singleVerdict}
+use Rattle.single_sequence.specs.Single.{singleVerdict}
 
 abbrev pub stringDnaHundredths : List ℕ → HundredthsAnswer
 stringDnaHundredths dna = hundredthsAnswer (singleVerdict dna) (singleHundredths dna)

@@ -4,7 +4,5 @@ mod single;
 
 pub use hundredths::string_dna_hundredths;
 pub use sequence_pairs::sequence_pair_str_dg_ds;
-pub use single::check_single;
-pub use single::single_energy;
 pub use single::string_dna_delta_g;
 pub use single::string_dna_dg_ds;

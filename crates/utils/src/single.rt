@@ -1,70 +1,16 @@
 // One sequence with its perfect fit.
 ghost use mathlib.Core.Path.{_≡_};
-ghost use Prim.Native.Nat.{_-_};
-ghost use lib.ListN.{length};
-ghost use Rattle.units.specs.Refusals.{check, Prints};
+ghost use Rattle.units.specs.Refusals.{Prints};
 ghost use Rattle.units.specs.Answers.{baseEnergyRefusal, energyRefusal};
-ghost use Rattle.utils.specs.Single.{stepsSum, singleEnergy, sequenceVerdict, singleVerdict, singleAtVerdict, stringDnaDgDs, stringDnaDeltaG};
-use bases::DnaNucleotideBase;
-use letters::check_length;
-use letters::check_letters;
-use step_values::add_energy;
-use step_values::dg_ds;
-use step_values::no_energy;
-use step_values::start;
-use units::BaseEnergy;
+ghost use Rattle.single_sequence.specs.Single.{singleVerdict, singleAtVerdict};
+ghost use Rattle.utils.specs.Single.{stringDnaDgDs, stringDnaDeltaG};
+use single_sequence::check_single;
+use single_sequence::check_single_at;
+use single_sequence::single_energy;
 use units::BaseEnergyAnswer;
 use units::Check;
 use units::EnergyAnswer;
-use units::Refusal;
-use units::check_kelvin;
 use units::energy_at;
-
-// The sum of all steps, from left to right.
-fn single_sequence_dg_ds(dna: &[u8]) -> BaseEnergy
-    ensures { λ r. ⌜ r ≡ stepsSum (now (dna .entry)) (length (now (dna .entry)) - 1) ⌝ }
-{
-    let mut sum = no_energy();
-    let mut i = 0;
-    while i + 1 < dna.len() {
-        let step = dg_ds(
-            DnaNucleotideBase::from(dna[i]),
-            DnaNucleotideBase::from(dna[i + 1]),
-        );
-        sum = add_energy(step, sum);
-        i += 1;
-    }
-    sum
-}
-
-// What is refused of one sequence, whose number 11 names: over 256 letters, a bad letter, under 2 letters.
-pub fn check_single(dna: &[u8], sequence: usize) -> Check
-    ensures { λ r. ⌜ r ≡ check (sequenceVerdict sequence (now (dna .entry))) ⌝ }
-{
-    match check_length(dna) {
-        Check::Refused(r) => return Check::Refused(r),
-        Check::Passed => (),
-    }
-    match check_letters(dna, sequence) {
-        Check::Refused(r) => return Check::Refused(r),
-        Check::Passed => (),
-    }
-    if dna.len() < 2 {
-        return Check::Refused(Refusal {
-            number: 12,
-            first: 0,
-            second: 0,
-        });
-    }
-    Check::Passed
-}
-
-// The energy of a sequence: its steps, then the start term.
-pub fn single_energy(dna: &[u8]) -> BaseEnergy
-    ensures { λ r. ⌜ r ≡ singleEnergy (now (dna .entry)) ⌝ }
-{
-    add_energy(single_sequence_dg_ds(dna), start())
-}
 
 // ΔG and ΔS of a sequence with its reverse complement.
 pub fn string_dna_dg_ds(dna: &[u8]) -> BaseEnergyAnswer
@@ -74,16 +20,6 @@ pub fn string_dna_dg_ds(dna: &[u8]) -> BaseEnergyAnswer
     match check_single(dna, 0) {
         Check::Refused(r) => BaseEnergyAnswer::Refused(r),
         Check::Passed => BaseEnergyAnswer::Found(single_energy(dna)),
-    }
-}
-
-// What is refused of one sequence at a temperature, which is tested first.
-fn check_single_at(dna: &[u8], kelvin: f64) -> Check
-    ensures { λ r. ⌜ r ≡ check (singleAtVerdict (now (dna .entry)) kelvin) ⌝ }
-{
-    match check_kelvin(kelvin) {
-        Check::Refused(r) => Check::Refused(r),
-        Check::Passed => check_single(dna, 0),
     }
 }
 

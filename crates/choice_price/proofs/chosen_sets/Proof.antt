@@ -5,7 +5,8 @@ use mathlib.Core.Bool.{Bool}
 use mathlib.Core.List.{List, []}
 use native.Mathlib.Nat.{mul-le-mul}
 use native.Mathlib.Omega.{arith}
-use lib.ListN.{length, set, take}
+use lib.ListN.{length, set, take, drop}
+use lib.Seq.{drop-set-lt}
 use denote.Ref.{now}
 use borrow.Author.Needs.{needs}
 use Rattle.units.specs.Refusals.{check}
@@ -51,6 +52,11 @@ front-is c =
     (there-word (asked s) (lists s) (a .bay) (a .strand) (free .constrained-allowed-tiles-at .ensures) (alone .only .ensures) (c .both .ensures))
     (elsewhere (asked s) (lists s) (a .bay) (a .strand)) (filled c) (c .before .before .before .before .before .fill-sets .ensures .0)
 
+rest-is : (c : tie.After-both) → let s = c .before .before .before .before .before .before .before .before .before .before .before .before .before .before .before in drop (count s) (table c) ≡ drop (count s) (now (s .args .sets))
+rest-is c =
+    let s = c .before .before .before .before .before .before .before .before .before .before .before .before .before .before .before in
+    drop-set-lt (count s) (filled c) (s .args .bay) (c .both .result) (s .pre .1 .1 .1 .1) ∙ c .before .before .before .before .before .fill-sets .ensures .1
+
 long : (c : tie.After-both) → let s = c .before .before .before .before .before .before .before .before .before .before .before .before .before .before .before in length (take (count s) (table c)) ≡ count s
 long c = let s = c .before .before .before .before .before .before .before .before .before .before .before .before .before .before .before in ap length (front-is c) ∙ length-sets (may s) (count s)
 
@@ -78,7 +84,7 @@ slice-write-sets : tie.Need-slice-write-sets
 slice-write-sets c =
     let s = c .before .before .before .before .before .before .before .before .before .before .before .before .before .before .before in
     let legal = isLegal (asked s) (lists s) in
-    let room : count s ≤ length (filled c) = front-fits (count s) (filled c) (c .before .before .before .before .before .fill-sets .ensures) (length-sets legal (count s)) in
+    let room : count s ≤ length (filled c) = front-fits (count s) (filled c) (c .before .before .before .before .before .fill-sets .ensures .0) (length-sets legal (count s)) in
     omega (arith, room, s .pre .1 .1 .1 .1)
 
 slice-reshare-prefix-check-empty : tie.Need-slice-reshare-prefix-check-empty
@@ -97,7 +103,7 @@ returns : tie.Need-returns
 returns c =
     let written = c .before .before in
     let z = c .before .before .before .before .before .before .before .before .before .before .before .before .before .before .before .before .before .args .z in
-    (front-is written, c .check-empty .ensures ∙ ap (λ (sets : List ℕ). check (emptyVerdict (z .rows) (z .cols) sets)) (front-is written))
+    (front-is written, (c .check-empty .ensures ∙ ap (λ (sets : List ℕ). check (emptyVerdict (z .rows) (z .cols) sets)) (front-is written), rest-is written))
 
 pub chosen-sets-spec : {M : Type 1} → statement M
 chosen-sets-spec =

@@ -46,7 +46,7 @@ shaped s = shape-passes (s .args .z) (length (now (s .args .layout))) (lists s) 
 
 -- what the test for empty sets answers
 seven : (c : tie.After-chosen-sets) → c .chosen-sets .result ≡ check (empty (c .before .before .before .before .before .before .before .before .before .before .before .before .before))
-seven c = let s = c .before .before .before .before .before .before .before .before .before .before .before .before .before in empty-is (asked s) (lists s) (length (now (s .args .layout))) (s .pre .0) (shaped s) (may s) (c .chosen-sets .ensures .1)
+seven c = let s = c .before .before .before .before .before .before .before .before .before .before .before .before .before in empty-is (asked s) (lists s) (length (now (s .args .layout))) (s .pre .0) (shaped s) (may s) (c .chosen-sets .ensures .1 .0)
 
 slice-aggregate-chosen-sets : tie.Need-slice-aggregate-chosen-sets
 slice-aggregate-chosen-sets c = search needs

@@ -1,6 +1,5 @@
 -- `mismatch_values::calc_penalty` meets its contract: the table of the code is the printed hundredths, each rounded once, which antt computes. Assumes nothing.
 use Prim.Native.Nat.{_+_, _*_, _<_}
-use mathlib.Core.Path.{_≡_}
 use lib.IntN.{pos}
 use lib.Ieee.{nan, ofBits, neg}
 use native.Mathlib.Omega.{arith}

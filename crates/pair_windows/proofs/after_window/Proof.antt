@@ -1,8 +1,5 @@
 -- `pair_windows::after_window` meets its contract, by what the windows before came to. Assumes nothing.
-use Prim.Native.Nat.{_<_}
-use mathlib.Core.Path.{_∙_, ap}
 use borrow.Author.Needs.{needs}
-use Rattle.pair_windows.specs.Windows.{badIn}
 use Rattle.pair_windows.proofs.after_window.Statement.{statement}
 use Rattle.pair_windows.proofs.after_window.Tie as tie
 

@@ -1,8 +1,8 @@
 -- `pair_windows::closed_by` meets its contract, by what the loop adds. Assumes nothing.
 use mathlib.Core.Path.{sym, _∙_, ap}
 use borrow.Author.Needs.{needs}
+use Rattle.pair_windows.specs.Windows.{addToDg}
 use Rattle.pair_windows.specs.declared.PairSum.the-variants.{Going}
-use Rattle.pair_windows.specs.declared.PairSum.{PairSum}
 use Rattle.pair_windows.proofs.closed_by.Statement.{statement}
 use Rattle.pair_windows.proofs.closed_by.Tie as tie
 
@@ -12,6 +12,9 @@ loop-penalty-requires c κs = search needs
 enum-known-penalty : tie.Need-enum-known-penalty
 enum-known-penalty c = search needs
 
+add-energy-requires : tie.Need-add-energy-requires
+add-energy-requires c κs = search needs
+
 add-to-dg-requires : tie.Need-add-to-dg-requires
 add-to-dg-requires c κs = search needs
 
@@ -20,8 +23,9 @@ enum-told c = search needs
 
 returns : tie.Need-returns
 returns c =
-    let asked = c .before .before .before .before in
-    rw (sym (asked .loop-penalty .ensures) ∙ c .before .before .penalty .given .1) (ap (λ e. Going e 0) (c .add-to-dg .ensures))
+    let told = c .before .before .before in
+    rw (sym (told .before .before .loop-penalty .ensures) ∙ told .penalty .given .1)
+    (ap (λ e. Going e 0) (c .add-to-dg .ensures ∙ ap (λ e. addToDg e (told .penalty .given .0 .0)) (c .before .add-energy .ensures)))
 
 returns-2 : tie.Need-returns-2
 returns-2 c = rw (sym (c .before .before .loop-penalty .ensures) ∙ c .enum-told .given .1)
@@ -32,6 +36,7 @@ closed-by-spec =
     (tie.spec
     loop-penalty-requires
     enum-known-penalty
+    add-energy-requires
     add-to-dg-requires
     enum-told
     returns

@@ -1,12 +1,12 @@
 -- `pair_windows::pair_sum` meets its contract. The invariant: the sum is that of the first i windows. Assumes nothing.
-use Prim.Native.Nat.{_+_, _-_, _≤_, _<_}
+use Prim.Native.Nat.{_-_, _≤_}
 use mathlib.Core.Path.{_≡_, _∙_, sym, ap}
 use native.Mathlib.Omega.{arith}
 use lib.ListN.{length}
 use denote.Ref.{now}
 use borrow.Author.Needs.{needs}
 use Rattle.pair_windows.proofs.Windows.{windows-more, bad-at-most}
-use Rattle.pair_windows.specs.Windows.{badIn, windowsSum}
+use Rattle.pair_windows.specs.Windows.{windowsSum}
 use Rattle.pair_windows.specs.declared.PairSum.the-variants.{Going}
 use Rattle.pair_windows.proofs.pair_sum.Statement.{statement}
 use Rattle.pair_windows.proofs.pair_sum.Tie as tie

@@ -8,7 +8,8 @@ use Rattle.units.specs.Answers.{baseEnergyAnswer}
 use Rattle.units.specs.Refusals.{passes}
 use Rattle.sequence_pairs.proofs.Refused.{pair-tabled, pair-short, pair-equal}
 use Rattle.pair_windows.specs.Windows.{pairSum}
-use Rattle.sequence_pairs.specs.Pair.{pairTests, pairVerdict, loopsVerdict, energyIn}
+use Rattle.pair_checks.specs.Tests.{pairTests}
+use Rattle.sequence_pairs.specs.Pair.{pairVerdict, loopsVerdict, energyIn}
 use Rattle.sequence_pairs.proofs.sequence_pair_str_dg_ds.Statement.{statement}
 use Rattle.sequence_pairs.proofs.sequence_pair_str_dg_ds.Tie as tie
 

@@ -1,7 +1,7 @@
 -- `sheet_files::read_open` meets its contract: what was read lies within the room, and a read that gives no byte ends the loop. Assumes nothing.
 use Prim.Native.Nat.{_≤_, _-_}
 use mathlib.Core.Path.{_≡_}
-use mathlib.Core.Bool.{false≢true}
+use mathlib.Core.Bool.{false≢true, true≢false}
 use native.Mathlib.Omega.{arith}
 use lib.ListN.{length}
 use borrow.Author.Needs.{needs}
@@ -34,7 +34,7 @@ same-length : tie.Need-same-length Inv-loop μ-loop
 same-length c = search needs
 
 returns : tie.Need-returns Inv-loop μ-loop
-returns c = (counts _ _ (omega arith), λ h. omega arith)
+returns c = (counts _ _ (omega arith), (λ h. omega arith, λ h. absurd (true≢false h)))
 
 add-done : tie.Need-add-done Inv-loop μ-loop
 add-done c = search needs
@@ -49,7 +49,7 @@ same-length-2 : tie.Need-same-length-2 Inv-loop μ-loop
 same-length-2 c = search needs
 
 returns-2 : tie.Need-returns-2 Inv-loop μ-loop
-returns-2 c = (counts _ _ (omega arith), λ h. absurd (false≢true h))
+returns-2 c = (counts _ _ (omega arith), (λ h. absurd (false≢true h), λ h. absurd (true≢false h)))
 
 pub read-open-spec : {M : Type 1} → statement M
 read-open-spec =

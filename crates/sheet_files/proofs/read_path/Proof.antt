@@ -1,4 +1,5 @@
 -- `sheet_files::read_path` meets its contract: a file that cannot be opened is not whole. Assumes nothing.
+use mathlib.Core.Path.{refl}
 use mathlib.Core.Bool.{false≢true}
 use borrow.Author.Needs.{needs}
 use Rattle.sheet_files.proofs.read_path.Statement.{statement}
@@ -8,7 +9,7 @@ open-read-requires : tie.Need-open-read-requires
 open-read-requires c κs = search needs
 
 returns : tie.Need-returns
-returns c = (search needs, λ h. absurd (false≢true h))
+returns c = (search needs, (λ h. absurd (false≢true h), λ h. refl))
 
 read-open-requires : tie.Need-read-open-requires
 read-open-requires c κs = search needs

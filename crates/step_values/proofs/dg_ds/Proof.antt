@@ -1,5 +1,5 @@
 -- `step_values::dg_ds` meets its contract: each table of the code is the printed numbers, each rounded once, which antt computes. Assumes nothing.
-use mathlib.Core.Path.{_≡_, ap₂}
+use mathlib.Core.Path.{ap₂}
 use native.Mathlib.Omega.{arith}
 use borrow.Author.Needs.{needs}
 use lib.Ieee.{Float, nan, ofBits}
@@ -33,7 +33,7 @@ unfolding ofBits decimal stepOf steps dgDs energy
 returns c =
     let a = c .before .args .a in
     let b = c .before .args .b in
-    rw (c .step-place .ensures) (ap₂ energy (made-of-steps (λ s. minus (s .dg) 100) a b nan) (made-of-steps (λ s. minus (s .ported) 10000) a b nan))
+    rw (c .step-place .ensures) (ap₂ energy (made-of-steps (λ s. minus (s .dg) 100) a b nan) (made-of-steps (λ s. minus (s .ds) 10000) a b nan))
 
 pub dg-ds-spec : {M : Type 1} → statement M
 dg-ds-spec = tie.close (tie.spec step-place-requires mul-t5 array-read-t8 mul-t10 array-read-t13 returns)

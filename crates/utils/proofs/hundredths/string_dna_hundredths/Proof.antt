@@ -1,7 +1,6 @@
 -- `utils::hundredths::string_dna_hundredths` meets its contract: the tests refuse, or the value is answered. Assumes nothing.
 use mathlib.Core.Path.{_≡_, _∙_, ap}
 use native.Mathlib.Omega.{arith}
-use lib.ListN.{length}
 use mir.Syntax.{w32}
 use mir.ValLaws.{toZ-ofZ}
 use denote.Ref.{now}
@@ -12,7 +11,7 @@ use Rattle.units.specs.Refusals.{passes}
 use Rattle.units.specs.declared.HundredthsAnswer.the-variants.{Hundredths}
 use Rattle.utils.proofs.Refused.{single-tabled, single-short, single-long}
 use Rattle.energy_hundredths.specs.Hundredths.{singleHundredths}
-use Rattle.utils.specs.Single.{singleVerdict}
+use Rattle.single_sequence.specs.Single.{singleVerdict}
 use Rattle.utils.proofs.hundredths.string_dna_hundredths.Statement.{statement}
 use Rattle.utils.proofs.hundredths.string_dna_hundredths.Tie as tie
 

@@ -1,7 +1,7 @@
--- `utils::single::single_energy` meets its contract. Assumes nothing.
+-- `single_sequence::single_energy` meets its contract. Assumes nothing.
 use borrow.Author.Needs.{needs}
-use Rattle.utils.proofs.single.single_energy.Statement.{statement}
-use Rattle.utils.proofs.single.single_energy.Tie as tie
+use Rattle.single_sequence.proofs.single_energy.Statement.{statement}
+use Rattle.single_sequence.proofs.single_energy.Tie as tie
 
 single-sequence-dg-ds-requires : tie.Need-single-sequence-dg-ds-requires
 single-sequence-dg-ds-requires c κs = search needs

@@ -1,12 +1,11 @@
--- `utils::single::check_single_at` meets its contract: the temperature decides, or leaves it to the sequence. Assumes nothing.
-use mathlib.Core.Path.{ap, _∙_, sym}
+-- `single_sequence::check_single_at` meets its contract: the temperature decides, or leaves it to the sequence. Assumes nothing.
 use denote.Ref.{now}
 use borrow.Author.Needs.{needs}
 use Rattle.units.proofs.Verdicts.{refused-first, passed-first}
 use Rattle.units.specs.Kelvin.{kelvinVerdict}
-use Rattle.utils.specs.Single.{singleVerdict}
-use Rattle.utils.proofs.single.check_single_at.Statement.{statement}
-use Rattle.utils.proofs.single.check_single_at.Tie as tie
+use Rattle.single_sequence.specs.Single.{singleVerdict}
+use Rattle.single_sequence.proofs.check_single_at.Statement.{statement}
+use Rattle.single_sequence.proofs.check_single_at.Tie as tie
 
 check-kelvin-requires : tie.Need-check-kelvin-requires
 check-kelvin-requires c κs = search needs

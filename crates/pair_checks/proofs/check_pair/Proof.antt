@@ -1,13 +1,13 @@
--- `sequence_pairs::check_pair` meets its contract: the chain of tests is followed link by link. Assumes nothing.
-use mathlib.Core.Path.{_≡_, _∙_}
+-- `pair_checks::check_pair` meets its contract: the chain of tests is followed link by link. Assumes nothing.
+use mathlib.Core.Path.{_≡_}
 use denote.Ref.{now}
 use borrow.Author.Needs.{needs}
 use Rattle.units.proofs.Verdicts.{refused-first, passed-first}
 use Rattle.units.specs.Refusals.{_▷_}
 use Rattle.letters.specs.Letters.{lengthVerdict}
-use Rattle.sequence_pairs.specs.Pair.{pairLetters, pairTests}
-use Rattle.sequence_pairs.proofs.check_pair.Statement.{statement}
-use Rattle.sequence_pairs.proofs.check_pair.Tie as tie
+use Rattle.pair_checks.specs.Tests.{pairLetters, pairTests}
+use Rattle.pair_checks.proofs.check_pair.Statement.{statement}
+use Rattle.pair_checks.proofs.check_pair.Tie as tie
 
 -- past the first test
 one-passed : (c : tie.After-enum-told) → let args = c .before .before .before .before .before .args in

@@ -1,4 +1,4 @@
--- `sequence_pairs::check_pair_letters` meets its contract: the chain of tests is followed link by link. Assumes nothing.
+-- `pair_checks::check_pair_letters` meets its contract: the chain of tests is followed link by link. Assumes nothing.
 use mathlib.Core.Path.{_≡_, _∙_}
 use denote.Ref.{now}
 use borrow.Author.Needs.{needs}
@@ -6,9 +6,9 @@ use borrow.Author.Tests.{eq-eqb, ne-eqb}
 use Rattle.units.proofs.Verdicts.{refused-first, passed-first}
 use Rattle.units.specs.Refusals.{_▷_}
 use Rattle.letters.specs.Letters.{lettersVerdict}
-use Rattle.sequence_pairs.specs.Pair.{unequalVerdict, pairLetters}
-use Rattle.sequence_pairs.proofs.check_pair_letters.Statement.{statement}
-use Rattle.sequence_pairs.proofs.check_pair_letters.Tie as tie
+use Rattle.pair_checks.specs.Tests.{unequalVerdict, pairLetters}
+use Rattle.pair_checks.proofs.check_pair_letters.Statement.{statement}
+use Rattle.pair_checks.proofs.check_pair_letters.Tie as tie
 
 -- past the first test, and past the second
 one-passed : (c : tie.After-enum-told) → let args = c .before .before .before .before .before .args in

@@ -5,7 +5,7 @@ use mathlib.Core.List.{List}
 use native.Mathlib.Numerals.{add-one}
 use Rattle.bases.specs.Bases.{baseAt}
 use Rattle.step_values.specs.Steps.{dgDs, addEnergy}
-use Rattle.utils.specs.Single.{stepsSum}
+use Rattle.single_sequence.specs.Single.{stepsSum}
 
 pub steps-more : (dna : List ℕ) (i : ℕ) → stepsSum dna (i + 1) ≡ addEnergy (dgDs (baseAt dna i) (baseAt dna (i + 1))) (stepsSum dna i)
 unfolding stepsSum

@@ -1,14 +1,14 @@
--- `utils::single::single_sequence_dg_ds` meets its contract. The invariant: the sum is that of the first i steps. Assumes nothing.
-use Prim.Native.Nat.{_+_, _-_, _≤_}
+-- `single_sequence::single_sequence_dg_ds` meets its contract. The invariant: the sum is that of the first i steps. Assumes nothing.
+use Prim.Native.Nat.{_-_, _≤_}
 use mathlib.Core.Path.{_≡_, _∙_, sym, ap}
 use native.Mathlib.Omega.{arith}
 use lib.ListN.{length}
 use denote.Ref.{now}
 use borrow.Author.Needs.{needs}
-use Rattle.utils.proofs.Sums.{steps-more}
-use Rattle.utils.specs.Single.{stepsSum}
-use Rattle.utils.proofs.single.single_sequence_dg_ds.Statement.{statement}
-use Rattle.utils.proofs.single.single_sequence_dg_ds.Tie as tie
+use Rattle.single_sequence.proofs.Sums.{steps-more}
+use Rattle.single_sequence.specs.Single.{stepsSum}
+use Rattle.single_sequence.proofs.single_sequence_dg_ds.Statement.{statement}
+use Rattle.single_sequence.proofs.single_sequence_dg_ds.Tie as tie
 
 abbrev Inv-loop : tie.InvT-loop
 Inv-loop dna sum₀ i₀ sum i = (i ≤ length dna - 1) × (sum ≡ stepsSum dna i)
