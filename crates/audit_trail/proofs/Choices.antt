@@ -1,13 +1,12 @@
 -- The rows of a block in the system's own words are those of the ledger over any scan, each turned round. Assumes nothing.
-use Prim.Native.Nat.{ℕ, zero, suc, _+_, _*_, _-_, _≤_, _<_, min}
-use mathlib.Core.Path.{_≡_, refl, sym, _∙_, ap, ap₂, subst}
+use Prim.Native.Nat.{ℕ, zero, suc, _+_, _-_, _≤_, _<_, min}
+use mathlib.Core.Path.{_≡_, refl, sym, _∙_, ap, ap₂}
 use mathlib.Core.Bool.{Bool, true, false, cond}
 use mathlib.Core.List.{List, [], _∷_, _++_, map, append-nil}
-use mathlib.Core.Logic.{_↔_, ⊎-elim}
 use native.Mathlib.Decide.{decLt}
 use native.Mathlib.Omega.{arith}
 use lib.Dec.{leb}
-use lib.ListN.{length, getD, take, drop, length-map, length-drop, List·getD-map}
+use lib.ListN.{length, getD, take, drop, length-map, List·getD-map}
 use borrow.Author.Tests.{leb-true, leb-false}
 use Rattle.sets.specs.Set.{members, alone}
 use Rattle.sdc2d.specs.System.{System, bays}
@@ -16,7 +15,7 @@ use Rattle.legal_at.specs.Legal.{isLegal}
 use Rattle.legal_at.specs.Layouts.{legalStrands}
 use Rattle.scan_order.specs.Scan.{window, bayAt}
 use Rattle.ledger_rows.specs.Scan.{Scan}
-use Rattle.ledger_rows.specs.Blocks.{size, need}
+use Rattle.ledger_rows.specs.Blocks.{need}
 use Rattle.ledger_rows.specs.LeastEnergyTheorem.{eachWith, choices as scanChoices, windows, EndsIn as ScanEndsIn}
 use Rattle.ledger_rows.proofs.Windows.{length-choices}
 use Rattle.least_layout.specs.Run.{systemScan}

@@ -1,6 +1,6 @@
 -- The tests before the energies, one by one and as the call's verdict; and that none of them is 10. Assumes nothing.
-use Prim.Native.Nat.{ℕ, _+_, _*_, _/_, _≤_, _<_}
-use mathlib.Core.Path.{_≡_, refl, sym, _∙_, ap, ap₂, subst}
+use Prim.Native.Nat.{ℕ, _+_, _/_, _≤_}
+use mathlib.Core.Path.{_≡_, refl, sym, _∙_, ap, ap₂}
 use mathlib.Core.Bool.{Bool, true, false, not, _&&_, _||_}
 use mathlib.Core.List.{List, [], _∷_}
 use native.Mathlib.Omega.{arith}
@@ -14,12 +14,10 @@ use Rattle.units.proofs.Verdicts.{no-fault, first-passes, rest-passes}
 use Rattle.sdc2d.specs.System.{System, bays, sizesFit, lengthsFit, isLog, firstBadSeed, systemVerdict}
 use Rattle.sdc2d.proofs.Fine.{fine}
 use Rattle.bay_lists.specs.Lists.{Constraints, offsetsShaped}
-use Rattle.legal_at.specs.Legal.{isLegal}
 use Rattle.scan_order.specs.Scan.{bayAt}
 use Rattle.legal.specs.Sets.{setsOf, shapeVerdict, firstEmpty, emptyVerdict}
 use Rattle.legal.proofs.Seven.{seven-of-a-system}
 use Rattle.least_layout.specs.Run.{runNeed}
-use Rattle.least_layout.proofs.Fillings.{Fit}
 use Rattle.least_layout.proofs.Passed.{fit}
 use Rattle.run_room.specs.Room.{roomVerdict}
 use Rattle.sdc2d_thermo.specs.Run.{earlyVerdict}

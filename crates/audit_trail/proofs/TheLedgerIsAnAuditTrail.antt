@@ -1,9 +1,9 @@
 -- THE THEOREM of demand 3: whatever `mfe_configuration` is lent, what it answers and leaves is what the customer asked for. Assumes nothing.
-use Prim.Native.Nat.{ℕ, zero, suc, _+_, _*_, _-_, _≤_, _<_}
+use Prim.Native.Nat.{ℕ, zero, suc, _+_, _-_, _≤_, _<_}
 use mathlib.Core.Path.{_≡_, refl, sym, _∙_, ap, ap₂, subst}
-use mathlib.Core.Bool.{Bool, true, false, not, true≢false}
-use mathlib.Core.List.{List, [], _∷_, _++_}
-use mathlib.Core.Logic.{_↔_, ⊎-elim}
+use mathlib.Core.Bool.{Bool, true, false, true≢false}
+use mathlib.Core.List.{List, [], _++_}
+use mathlib.Core.Logic.{⊎-elim}
 use native.Mathlib.Nat.{mul-pos, eq-or-lt-of-le, le-of-suc-le-suc}
 use native.Mathlib.Omega.{arith}
 use lib.Ieee.{Float, nan, inf, binary64, ofBits, lt, le}
@@ -21,7 +21,7 @@ use Rattle.units.specs.Refusals.{Verdict, passes, refuses, refuseIf, _▷_, ifP
 use Rattle.units.proofs.Verdicts.{no-fault, first-passes, rest-passes}
 use Rattle.sdc2d.specs.System.{System, system, bays, systemVerdict}
 use Rattle.sdc2d.proofs.Fine.{Fine, fine}
-use Rattle.state_energy.specs.StateG.{energyVerdict, inKcal}
+use Rattle.state_energy.specs.StateG.{inKcal}
 use Rattle.bay_lists.specs.Lists.{Constraints, constraints}
 use Rattle.legal_at.specs.Layouts.{LegalLayout}
 use Rattle.legal.specs.Sets.{setsOf, emptyVerdict, shapeVerdict}
@@ -35,7 +35,6 @@ use Rattle.ledger_rows.specs.LeastEnergyTheorem.{Answered}
 use Rattle.row_choice.proofs.Reading.{any-default}
 use Rattle.least_layout.specs.Run.{systemScan, runNeed, leastSum, leastLayout}
 use Rattle.least_layout.specs.Layouts.{LeastLayoutTheorem}
-use Rattle.least_layout.proofs.Fillings.{Fit}
 use Rattle.least_layout.proofs.Passed.{fit, run-is-right}
 use Rattle.sets_run.specs.Finished.{front, tableAfter}
 use Rattle.sdc2d_thermo.specs.Run.{earlyVerdict, sumVerdict, runVerdict, mfeAnswer, layoutAfter, energiesAfter, notesAfter}

@@ -1,14 +1,14 @@
 -- Tables that hold the ledger of a system's scan are an audit trail. Assumes nothing.
-use Prim.Native.Nat.{ℕ, zero, suc, _+_, _*_, _-_, _≤_, _<_}
-use mathlib.Core.Path.{_≡_, refl, sym, _∙_, ap, ap₂, subst}
-use mathlib.Core.Bool.{Bool, true, false, cond}
-use mathlib.Core.List.{List, [], _∷_}
+use Prim.Native.Nat.{ℕ, suc, _-_, _≤_, _<_}
+use mathlib.Core.Path.{_≡_, sym, _∙_, ap, ap₂, subst}
+use mathlib.Core.Bool.{true, cond}
+use mathlib.Core.List.{List}
 use native.Mathlib.Decide.{decLe}
 use native.Mathlib.Omega.{arith}
 use lib.Dec.{leb}
-use lib.Ieee.{Float, nan, lt, le}
+use lib.Ieee.{Float, lt, le}
 use lib.ListN.{length, getD, take, drop, List·getD-eq-default}
-use lib.Seq.{getD-take, getD-drop, length-take-le}
+use lib.Seq.{getD-take, length-take-le}
 use borrow.Author.Tests.{le-leb, lt-leb}
 use Rattle.sdc2d.specs.System.{System, bays}
 use Rattle.bay_lists.specs.Lists.{Constraints}
@@ -19,10 +19,10 @@ use Rattle.beta_energies.specs.ScanSum.{scannedStrand}
 use Rattle.ledger_rows.specs.Scan.{Scan, Legal, scanSum}
 use Rattle.ledger_rows.specs.Blocks.{heldAt, energies, notes}
 use Rattle.ledger_rows.specs.Trace.{trace, answerRow, answer, layout}
-use Rattle.ledger_rows.specs.LeastEnergyTheorem.{LeastEnergyTheorem, Answered, windows, EndsIn as ScanEndsIn, LeadsBack as ScanLeadsBack}
+use Rattle.ledger_rows.specs.LeastEnergyTheorem.{LeastEnergyTheorem, Answered, windows, EndsIn as ScanEndsIn}
 use Rattle.least_layout.specs.Run.{systemScan, rowByRow}
 use Rattle.least_layout.proofs.Fillings.{Fit, newestFirst, newest-at, strands-legal, strands-sum, legal-long, each-legal, filling-back}
-use Rattle.audit_trail.specs.Rows.{shorterSide, rowsAfter, begins, needed, EndsIn, strandThatLeft, fillingSum}
+use Rattle.audit_trail.specs.Rows.{shorterSide, rowsAfter, needed, EndsIn, strandThatLeft, fillingSum}
 use Rattle.audit_trail.specs.AuditTrail.{energyIn, notedIn, LeadsBack, AuditTrail, FirstLeast}
 use Rattle.audit_trail.proofs.Turned.{turned, length-turned, turned-at, turned-twice, turned-take}
 use Rattle.audit_trail.proofs.Choices.{kept-is, rows-many, window-turned, ends-turned, turned-ends}
