@@ -1,48 +1,42 @@
 -- What passed tests tell of a system: its sizes and the lengths of its slices. Assumes nothing.
 use Prim.Native.Nat.{ℕ, _*_, _%_, _≤_}
-use mathlib.Core.Path.{_≡_, refl, sym}
-use mathlib.Core.Bool.{Bool, true, false, not, _&&_, true≢false}
+use mathlib.Core.Path.{_≡_}
+use mathlib.Core.Bool.{true, not, _&&_}
 use mathlib.Core.List.{[]}
 use lib.Dec.{leb, eqb}
 use lib.ListN.{length}
 use borrow.Author.Tests.{leb-true, eqb-true, not-false}
 use Rattle.units.specs.Kelvin.{inKelvinRange}
+use Rattle.units.specs.Limits.{mostSide, mostStrands, mostGlues, fromOneTo}
 use Rattle.units.specs.Refusals.{passes}
+use Rattle.units.proofs.Tests.{and-left, and-right}
 use Rattle.units.proofs.Verdicts.{no-fault}
 use Rattle.sdc2d.specs.declared.sizes.Sizes.{Sizes}
-use Rattle.sdc2d.specs.System.{System, inRange, sizesFit, lengthsFit, sizesVerdict}
-
-and-left : (a b : Bool) → (a && b) ≡ true → a ≡ true
-and-left true b e = refl
-and-left false b e = e
-
-and-right : (a b : Bool) → (a && b) ≡ true → b ≡ true
-and-right true b e = e
-and-right false b e = absurd (true≢false (sym e))
+use Rattle.sdc2d.specs.System.{System, sizesFit, lengthsFit, sizesVerdict}
 
 -- sizes in range
 pub record InRange (z : Sizes) : Type 0 where
   pub some-rows : 1 ≤ z .rows
-  pub rows : z .rows ≤ 32
+  pub rows : z .rows ≤ mostSide
   pub some-cols : 1 ≤ z .cols
-  pub cols : z .cols ≤ 32
+  pub cols : z .cols ≤ mostSide
   pub some-strands : 1 ≤ z .strands
-  pub strands : z .strands ≤ 64
+  pub strands : z .strands ≤ mostStrands
   pub some-glues : 1 ≤ z .glues
-  pub glues : z .glues ≤ 256
+  pub glues : z .glues ≤ mostGlues
 
-lowest : (n most : ℕ) → inRange n most ≡ true → 1 ≤ n
+lowest : (n most : ℕ) → fromOneTo most n ≡ true → 1 ≤ n
 lowest n most e = leb-true 1 n (and-left (leb 1 n) (leb n most) e)
 
-highest : (n most : ℕ) → inRange n most ≡ true → n ≤ most
+highest : (n most : ℕ) → fromOneTo most n ≡ true → n ≤ most
 highest n most e = leb-true n most (and-right (leb 1 n) (leb n most) e)
 
 pub in-range : (z : Sizes) → sizesFit z ≡ true → InRange z
 in-range z e =
-    let r = inRange (z .rows) 32 in
-    let c = inRange (z .cols) 32 in
-    let s = inRange (z .strands) 64 in
-    let g = inRange (z .glues) 256 in
+    let r = fromOneTo mostSide (z .rows) in
+    let c = fromOneTo mostSide (z .cols) in
+    let s = fromOneTo mostStrands (z .strands) in
+    let g = fromOneTo mostGlues (z .glues) in
     let k = inKelvinRange (z .kelvin) in
     let e1 = and-right r (c && (s && (g && k))) e in
     let e2 = and-right c (s && (g && k)) e1 in
@@ -52,14 +46,14 @@ in-range z e =
     let es = and-left s (g && k) e2 in
     let eg = and-left g k e3 in
     record {
-      some-rows = lowest (z .rows) 32 er;
-      rows = highest (z .rows) 32 er;
-      some-cols = lowest (z .cols) 32 ec;
-      cols = highest (z .cols) 32 ec;
-      some-strands = lowest (z .strands) 64 es;
-      strands = highest (z .strands) 64 es;
-      some-glues = lowest (z .glues) 256 eg;
-      glues = highest (z .glues) 256 eg;
+      some-rows = lowest (z .rows) mostSide er;
+      rows = highest (z .rows) mostSide er;
+      some-cols = lowest (z .cols) mostSide ec;
+      cols = highest (z .cols) mostSide ec;
+      some-strands = lowest (z .strands) mostStrands es;
+      strands = highest (z .strands) mostStrands es;
+      some-glues = lowest (z .glues) mostGlues eg;
+      glues = highest (z .glues) mostGlues eg;
     }
 
 -- slices of the right lengths

@@ -2,10 +2,11 @@
 use Prim.Native.Nat.{ℕ, zero, suc, _*_, _/_, _%_}
 use mathlib.Core.Bool.{Bool, cond, not, _&&_}
 use mathlib.Core.List.{List, [], _∷_}
-use lib.Dec.{leb, ltb, eqb}
+use lib.Dec.{ltb, eqb}
 use lib.Ieee.{Float}
 use lib.ListN.{length}
 use Rattle.units.specs.Kelvin.{inKelvinRange}
+use Rattle.units.specs.Limits.{mostSide, mostStrands, mostGlues, fromOneTo}
 use Rattle.units.specs.Refusals.{Verdict, refuseIf, _▷_}
 use Rattle.sdc2d.specs.declared.sizes.Sizes.{Sizes}
 -- 2 and 3, and what is a log concentration, are passed on from where they stand
@@ -38,14 +39,12 @@ system sizes strandGlues scaffold deltaG entropy logs seeds =
 abbrev pub bays : Sizes → ℕ
 bays z = z .rows * z .cols
 
--- from 1 to `most`
-abbrev pub inRange : (n most : ℕ) → Bool
-inRange n most = leb 1 n && leb n most
-
--- rows and columns 1 to 32, strands 1 to 64, glues 1 to 256, 200 to 500 kelvin
+-- rows, columns, strands and glues from 1 to their limits, the temperature within its own
 abbrev pub sizesFit : Sizes → Bool
 sizesFit z =
-    inRange (z .rows) 32 && (inRange (z .cols) 32 && (inRange (z .strands) 64 && (inRange (z .glues) 256 && inKelvinRange (z .kelvin))))
+    fromOneTo mostSide (z .rows)
+    && (fromOneTo mostSide (z .cols)
+    && (fromOneTo mostStrands (z .strands) && (fromOneTo mostGlues (z .glues) && inKelvinRange (z .kelvin))))
 
 -- five glues a strand, one glue a bay, two square matrices over the glues, one logarithm a strand, seeds in triples
 abbrev pub lengthsFit : System → Bool

@@ -1,7 +1,6 @@
 // Sizes and temperature of a system, and the lengths of its slices.
 ghost use mathlib.Core.Path.{_≡_};
-ghost use Rattle.units.specs.Kelvin.{inKelvinRange};
-ghost use Rattle.sdc2d.specs.System.{inRange, sizesFit};
+ghost use Rattle.sdc2d.specs.System.{sizesFit};
 
 pub struct Sizes {
     pub rows: usize,
@@ -11,27 +10,20 @@ pub struct Sizes {
     pub kelvin: f64,
 }
 
-// Whether a number lies from 1 to `most`.
-fn in_range(n: usize, most: usize) -> bool
-    ensures { λ r. ⌜ r ≡ inRange n most ⌝ }
-{
-    1 <= n && n <= most
-}
-
-// Whether the sizes and the temperature are in document 01's ranges.
+// Whether the sizes and the temperature are within the limits.
 pub(crate) fn sizes_fit(z: Sizes) -> bool
     ensures { λ r. ⌜ r ≡ sizesFit z ⌝ }
 {
-    if !in_range(z.rows, 32) {
+    if !units::from_one_to(units::MOST_SIDE, z.rows) {
         return false;
     }
-    if !in_range(z.cols, 32) {
+    if !units::from_one_to(units::MOST_SIDE, z.cols) {
         return false;
     }
-    if !in_range(z.strands, 64) {
+    if !units::from_one_to(units::MOST_STRANDS, z.strands) {
         return false;
     }
-    if !in_range(z.glues, 256) {
+    if !units::from_one_to(units::MOST_GLUES, z.glues) {
         return false;
     }
     units::in_kelvin_range(z.kelvin)

@@ -1,3 +1,4 @@
+pub mod Tests
 pub mod Verdicts
 pub mod Answers
 pub mod Unique

@@ -4,11 +4,12 @@ use mathlib.Core.List.{[]}
 use lib.Ieee.{Float, binary64, sub, mul, div, le}
 use Rattle.units.specs.declared.BaseEnergy.{BaseEnergy}
 use Rattle.units.specs.Decimals.{plus}
+use Rattle.units.specs.Limits.{leastKelvin, mostKelvin}
 use Rattle.units.specs.Refusals.{Verdict, refuseIf}
 
 -- from 200 to 500 kelvin, the ends included
 abbrev pub inKelvinRange : Float → Bool
-inKelvinRange kelvin = le (plus 200 1) kelvin && le kelvin (plus 500 1)
+inKelvinRange kelvin = le (plus leastKelvin 1) kelvin && le kelvin (plus mostKelvin 1)
 
 abbrev pub kelvinVerdict : Float → Verdict
 kelvinVerdict kelvin = refuseIf (not (inKelvinRange kelvin)) 1 []

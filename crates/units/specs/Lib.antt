@@ -1,3 +1,4 @@
+pub mod Limits
 pub mod Decimals
 pub mod Refusals
 pub mod Answers

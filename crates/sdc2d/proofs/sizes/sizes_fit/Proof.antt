@@ -13,39 +13,39 @@ out e f = sym e ∙ not-true _ f
 within : {x y : Bool} → x ≡ y → not x ≡ false → y ≡ true
 within e f = sym e ∙ not-false _ f
 
-in-range-requires : tie.Need-in-range-requires
-in-range-requires c κs = search needs
+from-one-to-requires : tie.Need-from-one-to-requires
+from-one-to-requires c κs = search needs
 
 returns : tie.Need-returns
-returns c = rw (out (c .before .in-range .ensures) (c .if1 .taken))
+returns c = rw (out (c .before .from-one-to .ensures) (c .if1 .taken))
 
-in-range-requires-2 : tie.Need-in-range-requires-2
-in-range-requires-2 c κs = search needs
+from-one-to-requires-2 : tie.Need-from-one-to-requires-2
+from-one-to-requires-2 c κs = search needs
 
 returns-2 : tie.Need-returns-2
-returns-2 c = rw (within (c .before .before .before .in-range .ensures) (c .before .before .if1 .left), out (c .before .in-range2 .ensures) (c .if2 .taken))
+returns-2 c = rw (within (c .before .before .before .from-one-to .ensures) (c .before .before .if1 .left), out (c .before .from-one-to2 .ensures) (c .if2 .taken))
 
-in-range-requires-3 : tie.Need-in-range-requires-3
-in-range-requires-3 c κs = search needs
+from-one-to-requires-3 : tie.Need-from-one-to-requires-3
+from-one-to-requires-3 c κs = search needs
 
 returns-3 : tie.Need-returns-3
 returns-3 c =
     rw (
-      within (c .before .before .before .before .before .in-range .ensures) (c .before .before .before .before .if1 .left),
-      within (c .before .before .before .in-range2 .ensures) (c .before .before .if2 .left),
-      out (c .before .in-range3 .ensures) (c .if3 .taken),
+      within (c .before .before .before .before .before .from-one-to .ensures) (c .before .before .before .before .if1 .left),
+      within (c .before .before .before .from-one-to2 .ensures) (c .before .before .if2 .left),
+      out (c .before .from-one-to3 .ensures) (c .if3 .taken),
     )
 
-in-range-requires-4 : tie.Need-in-range-requires-4
-in-range-requires-4 c κs = search needs
+from-one-to-requires-4 : tie.Need-from-one-to-requires-4
+from-one-to-requires-4 c κs = search needs
 
 returns-4 : tie.Need-returns-4
 returns-4 c =
     rw (
-      within (c .before .before .before .before .before .before .before .in-range .ensures) (c .before .before .before .before .before .before .if1 .left),
-      within (c .before .before .before .before .before .in-range2 .ensures) (c .before .before .before .before .if2 .left),
-      within (c .before .before .before .in-range3 .ensures) (c .before .before .if3 .left),
-      out (c .before .in-range4 .ensures) (c .if4 .taken),
+      within (c .before .before .before .before .before .before .before .from-one-to .ensures) (c .before .before .before .before .before .before .if1 .left),
+      within (c .before .before .before .before .before .from-one-to2 .ensures) (c .before .before .before .before .if2 .left),
+      within (c .before .before .before .from-one-to3 .ensures) (c .before .before .if3 .left),
+      out (c .before .from-one-to4 .ensures) (c .if4 .taken),
     )
 
 in-kelvin-range-requires : tie.Need-in-kelvin-range-requires
@@ -55,10 +55,10 @@ returns-5 : tie.Need-returns-5
 returns-5 c =
     let d = c .before in
     rw (
-      within (d .before .before .before .before .before .before .before .in-range .ensures) (d .before .before .before .before .before .before .if1 .left),
-      within (d .before .before .before .before .before .in-range2 .ensures) (d .before .before .before .before .if2 .left),
-      within (d .before .before .before .in-range3 .ensures) (d .before .before .if3 .left),
-      within (d .before .in-range4 .ensures) (d .if4 .left),
+      within (d .before .before .before .before .before .before .before .from-one-to .ensures) (d .before .before .before .before .before .before .if1 .left),
+      within (d .before .before .before .before .before .from-one-to2 .ensures) (d .before .before .before .before .if2 .left),
+      within (d .before .before .before .from-one-to3 .ensures) (d .before .before .if3 .left),
+      within (d .before .from-one-to4 .ensures) (d .if4 .left),
     )
     (c .in-kelvin-range .ensures)
 
@@ -66,13 +66,13 @@ pub sizes-fit-spec : {M : Type 1} → statement M
 sizes-fit-spec =
     tie.close
     (tie.spec
-    in-range-requires
+    from-one-to-requires
     returns
-    in-range-requires-2
+    from-one-to-requires-2
     returns-2
-    in-range-requires-3
+    from-one-to-requires-3
     returns-3
-    in-range-requires-4
+    from-one-to-requires-4
     returns-4
     in-kelvin-range-requires
     returns-5)
