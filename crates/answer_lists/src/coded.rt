@@ -1,5 +1,4 @@
 // A text as a value: bytes that stand for themselves, and `%` with two hexadecimal digits for any other.
-ghost use mathlib.Core.Path.{_≡_};
 ghost use mathlib.Core.List.{_++_};
 ghost use Rattle.answer_texts.specs.Puts.{Put};
 ghost use Rattle.answer_lists.specs.Coded.{codedByte, coded};

@@ -1,5 +1,5 @@
 -- Names and widths at small values, computed. Assumes nothing.
-use mathlib.Core.List.{List, [], _∷_}
+use mathlib.Core.List.{[], _∷_}
 use mathlib.Core.Path.{_≡_, refl}
 use Rattle.entries.specs.Entries.{offsetsFrom, areFlags, sameBytes}
 use Rattle.strand_names.specs.Numerals.{numeralsFrom, numeralsText}

@@ -1,6 +1,6 @@
 -- From the bonds that the code asks for to the energies of bays and of neighbours, and what is no energy. Assumes nothing.
 use Prim.Native.Nat.{ℕ}
-use mathlib.Core.Path.{_≡_, refl, ap₂}
+use mathlib.Core.Path.{_≡_, refl}
 use mathlib.Core.Bool.{Bool, true, false, not}
 use mathlib.Core.List.{List}
 use lib.Dec.{eqb}
@@ -10,7 +10,7 @@ use Rattle.units.specs.declared.StrandGlues.{StrandGlues}
 use Rattle.sdc2d.specs.declared.sizes.Sizes.{Sizes}
 use Rattle.glue_readers.specs.Tables.{gluesOf, scaffoldGlue}
 use Rattle.bonds.specs.Bonds.{bondWe, bondNs, bondWithScaffold}
-use Rattle.beta_energies.specs.Energies.{bayEnergy, emptyPair, pairBond, edgeEnergy, noEnergy}
+use Rattle.beta_energies.specs.Energies.{bayEnergy, emptyPair, edgeEnergy, noEnergy}
 
 -- no energy is what is not above minus infinity
 pub no-energy-is : (x : Float) → noEnergy x ≡ not (lt (inf true) x)

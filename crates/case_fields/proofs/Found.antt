@@ -2,7 +2,7 @@
 use Prim.Native.Nat.{ℕ, _^_}
 use mathlib.Core.Bool.{Bool, true, false}
 use mathlib.Core.List.{List}
-use mathlib.Core.Path.{_≡_, refl, _∙_}
+use mathlib.Core.Path.{_≡_}
 use Rattle.case_numbers.specs.Digits.{numberOf}
 use Rattle.case_text.specs.Fields.{words, anyField, firstField}
 use Rattle.case_numbers.specs.declared.kinds.Number.{Number}

@@ -1,6 +1,5 @@
 // The values of a case line's fields by their keys. A missing field is unreadable, unless the caller has a value for it.
 ghost use mathlib.Core.Path.{_≡_};
-ghost use mathlib.Core.Bool.{cond};
 ghost use Prim.Native.Nat.{_^_};
 ghost use lib.ListN.{length};
 ghost use Rattle.case_numbers.specs.Digits.{worth, isNumber, numberOf, isFloat, floatIn, floatOf};

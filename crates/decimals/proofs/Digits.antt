@@ -1,7 +1,7 @@
 -- The turns of the two loops over a decimal's bytes: up to the point, and over digits. Assumes nothing.
-use Prim.Native.Nat.{ℕ, suc, _+_, _*_, _^_, _≤_, _<_}
-use mathlib.Core.Path.{_≡_, refl, sym, _∙_, ap}
-use mathlib.Core.Bool.{Bool, true, false, _&&_}
+use Prim.Native.Nat.{ℕ, _+_, _*_, _^_, _≤_, _<_}
+use mathlib.Core.Path.{_≡_, refl, sym, _∙_}
+use mathlib.Core.Bool.{true, false, _&&_}
 use mathlib.Core.List.{List}
 use native.Mathlib.Nat.{add-zero, add-suc, zero-add, suc-add}
 use native.Mathlib.Numerals.{add-one}

@@ -1,7 +1,7 @@
 -- The definitions at small texts, computed. Assumes nothing.
-use Prim.Native.Nat.{ℕ, _^_}
-use mathlib.Core.Bool.{true, false}
-use mathlib.Core.List.{List, [], _∷_, _++_, map}
+use Prim.Native.Nat.{_^_}
+use mathlib.Core.Bool.{true}
+use mathlib.Core.List.{[], _∷_, map}
 use mathlib.Core.Path.{_≡_, refl}
 use lib.Ieee.{inf, round}
 use lib.ListN.{replicate}

@@ -1,19 +1,18 @@
 -- A whole number below 2^53 over a power of ten up to 10^22: both are floats, so the quotient is rounded once. Assumes nothing.
 use Prim.Native.Nat.{ℕ, zero, suc, _+_, _*_, _^_, _≤_, _<_}
 use mathlib.Core.Path.{_≡_, refl, sym, _∙_, ap}
-use mathlib.Core.Bool.{Bool, true, false, cond}
+use mathlib.Core.Bool.{false}
 use mathlib.Core.List.{List, [], _∷_, map}
-use native.Mathlib.Nat.{mul-one, mul-comm, mul-assoc, mul-left-comm, pow-zero, pow-suc, one-le-pow, mul-pos, zero-add, lt-of-lt-of-le, add-zero, le-of-suc-le-suc, not-suc-le-zero}
-use native.Mathlib.Numerals.{add-one}
+use native.Mathlib.Nat.{mul-one, mul-comm, mul-assoc, mul-left-comm, pow-suc, one-le-pow, mul-pos, zero-add, lt-of-lt-of-le, add-zero, le-of-suc-le-suc, not-suc-le-zero}
 use native.Mathlib.Omega.{arith}
 use borrow.Author.Tests.{ne-eqb}
-use lib.Dec.{eqb, lit<}
+use lib.Dec.{lit<}
 use lib.Pow.{shl-lt, pow-mono, pow-pos}
-use lib.Ieee.{Float, nan, inf, fin, binary64, prec, emax, low, up, down, round, div, ofBits, ofInt}
+use lib.Ieee.{Float, nan, inf, fin, binary64, emax, low, up, down, round, div, ofInt}
 use lib.Ieee.Exact.{HasValue, round-exact}
 use lib.Ieee.Fits.{down-pos}
 use lib.Ieee.Scale.{round-same}
-use lib.IntN.{pos, negsuc}
+use lib.IntN.{pos}
 use lib.ListN.{length, getD}
 use Rattle.units.specs.Decimals.{decimal}
 use Rattle.bases.proofs.Tables.{made-at}

@@ -1,10 +1,9 @@
 -- Energies as text, computed. Assumes nothing.
-use Prim.Native.Nat.{ℕ}
-use mathlib.Core.List.{List, [], _∷_, map}
+use mathlib.Core.List.{[], _∷_, map}
 use mathlib.Core.Path.{_≡_, refl}
-use lib.Ieee.{Float, binary64, round, fin}
+use lib.Ieee.{binary64, round}
 use Rattle.answer_texts.specs.Puts.{decimal, numberText}
-use mathlib.Core.Bool.{Bool, true, false}
+use mathlib.Core.Bool.{true, false}
 use Rattle.energy_text.specs.Hundredths.{hundredths, isSmall, isNegative, energyText}
 
 -- −1.84, 12.5, 0, −0.001, 0.005 and 99.999: `-1.84`, `12.50`, `0.00`, `0.00`, `0.01`, `100.00`

@@ -2,12 +2,12 @@
 use Prim.Native.Nat.{ℕ, zero, suc, _+_, _-_, _*_, _/_, _%_, _^_, _≤_, _<_}
 use mathlib.Core.Path.{_≡_, refl, sym, _∙_, ap, subst}
 use mathlib.Core.Bool.{Bool, true, false, cond}
-use native.Mathlib.Nat.{div-eq-of-lt, mul-comm, mul-assoc, mul-left-comm, mul-right-comm, add-mul, mul-add, mul-pos, mul-one, pow-zero, mul-lt-mul-of-pos-right, lt-of-lt-of-le, mul-le-mul, div-lt-iff-lt-mul, le-div-iff-mul-le, mod-lt}
+use native.Mathlib.Nat.{div-eq-of-lt, mul-comm, mul-assoc, mul-left-comm, add-mul, mul-add, mul-pos, mul-one, pow-zero, lt-of-lt-of-le, mul-le-mul, div-lt-iff-lt-mul, le-div-iff-mul-le, mod-lt}
 use native.Mathlib.Omega.{arith}
-use borrow.Author.Tests.{lt-ltb, le-ltb, eq-eqb, ne-eqb, eqb-true, eqb-false}
+use borrow.Author.Tests.{lt-ltb, le-ltb, ne-eqb, eqb-true, eqb-false}
 use lib.Dec.{ltb, leb, eqb, lit<}
 use lib.Pow.{pow-pos, pow-mono, pow-add, shl-lt}
-use lib.Ieee.{Float, nan, inf, fin, up, down, binary64, low, hid, ones, top, prec, odd, ofFields, ofBits, isNan}
+use lib.Ieee.{Float, nan, inf, fin, up, down, binary64, ofFields, ofBits}
 use lib.Ieee.Exact.{HasValue, odd-sign}
 use lib.Ieee.Fits.{down-pos}
 use lib.Ieee.Nearest.{div-same}

@@ -1,9 +1,7 @@
 -- The text of an energy by its hundredths. Assumes nothing.
-use Prim.Native.Nat.{ℕ}
 use mathlib.Core.Path.{_≡_, refl, sym, _∙_, ap}
 use mathlib.Core.Bool.{Bool, true, false, cond, _&&_}
-use mathlib.Core.List.{List, [], _∷_, _++_}
-use native.Mathlib.Omega.{arith}
+use mathlib.Core.List.{[], _∷_, _++_}
 use lib.Dec.{ltb}
 use lib.Ieee.{Float}
 use Rattle.answer_texts.specs.Puts.{floatText}

@@ -3,12 +3,12 @@
 // Each function puts its part at the place `at`, leaves the rest of the text as it is, and answers the next place.
 ghost use mathlib.Core.Path.{_≡_};
 ghost use mathlib.Core.Bool.{_&&_};
-ghost use Prim.Native.Nat.{_+_, _*_, _≤_, max};
+ghost use Prim.Native.Nat.{_+_, _*_, _≤_};
 ghost use lib.Dec.{leb};
 ghost use lib.ListN.{length, getD, drop};
 ghost use Rattle.answer_texts.specs.Puts.{Put};
 ghost use Rattle.strand_names.specs.Names.{names};
-ghost use Rattle.layout_svg.specs.Drawing.{rowDrawing, rowsDrawing, pixelsAcross, drawing, svgText};
+ghost use Rattle.layout_svg.specs.Drawing.{rowDrawing, rowsDrawing, pixelsAcross, svgText};
 use answer_texts::put_text;
 use bay_drawing::put_bay;
 use bay_names::tile_at;

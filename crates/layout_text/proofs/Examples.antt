@@ -1,11 +1,11 @@
 -- A small layout as a grid of names, computed. Assumes nothing.
-use mathlib.Core.List.{List, [], _∷_}
+use mathlib.Core.List.{[], _∷_}
 use mathlib.Core.Path.{_≡_, refl}
 use Rattle.entries.specs.Entries.{offsetsFrom, areFlags, sameBytes}
 use Rattle.strand_names.specs.Numerals.{numeralsFrom, numeralsText}
 use Rattle.strand_names.specs.Names.{Names, names, namesSized, nullFirst, namesRead}
 use Rattle.bay_names.specs.Bays.{nameOf, bayText, begun, characterCount, widestBay}
-use Rattle.layout_text.specs.Grid.{spaces, gap, cellText, rowText, rowsText, layoutText}
+use Rattle.layout_text.specs.Grid.{spaces, gap, rowText, rowsText, layoutText}
 
 -- three strands: `null`, one without a name, and `aé`
 three : Names

@@ -1,5 +1,5 @@
 -- A filling, newest bay first, and a layout, row by row, are the same strands: legal together, with one scan sum. Assumes nothing.
-use Prim.Native.Nat.{ℕ, zero, suc, _+_, _*_, _-_, _%_, _≤_, _<_}
+use Prim.Native.Nat.{ℕ, zero, suc, _-_, _%_, _≤_, _<_}
 use mathlib.Core.Path.{_≡_, refl, sym, _∙_, ap, ap₂, subst}
 use mathlib.Core.Bool.{Bool, true, false, not}
 use mathlib.Core.List.{List, [], _∷_}
@@ -21,8 +21,7 @@ use Rattle.legal_at.specs.Layouts.{LayoutBy}
 use Rattle.scan_order.specs.Scan.{byRows, window, bayAt, numberAt}
 use Rattle.legal.specs.Sets.{bays}
 use Rattle.scan_order.proofs.Scanned.{bay-inside, number-inside, scanned, numbered}
-use Rattle.ledger_rows.specs.Scan.{Scan, In, Legal, scanSum}
-use Rattle.ledger_rows.specs.Blocks.{tab}
+use Rattle.ledger_rows.specs.Scan.{In, Legal, scanSum}
 use Rattle.ledger_rows.proofs.Lists.{tab-at, length-tab}
 use Rattle.least_layout.specs.Run.{scanBy, systemScan, rowByRow}
 use Rattle.least_layout.proofs.Meaning.{in-may, may-in, added-by, legal-below}

@@ -1,20 +1,19 @@
 -- From the links of the chain to what the call answers and leaves in the lent slice. Assumes nothing.
 use Prim.Native.Nat.{ℕ, _*_}
-use mathlib.Core.Path.{_≡_, refl, sym, _∙_, ap, subst}
+use mathlib.Core.Path.{_≡_, refl, sym, _∙_, ap}
 use mathlib.Core.Bool.{Bool, not, true, false, _&&_, true≢false}
-use mathlib.Core.List.{List, [], _∷_}
+use mathlib.Core.List.{List, []}
 use lib.Dec.{ltb, eqb}
 use lib.ListN.{length, take}
 use borrow.Author.Tests.{eqb-true, not-false}
 use Rattle.units.specs.declared.Refusal.{Refusal}
 use Rattle.units.specs.declared.Check.{Check}
 use Rattle.units.specs.declared.Check.the-variants.{Passed, Refused}
-use Rattle.units.specs.Refusals.{Verdict, passes, refuses, _▷_, refuseIf, check, ifPasses, Prints}
+use Rattle.units.specs.Refusals.{Verdict, _▷_, check, ifPasses, Prints}
 use Rattle.units.proofs.Verdicts.{passed, refused-first, refused-keeps, no-fault, Tabled, tabled-if, tabled-then, printed}
 use Rattle.sdc2d.specs.System.{System, systemVerdict}
 use Rattle.sdc2d.proofs.Tabled.{system-tabled}
 use Rattle.bay_lists.specs.Lists.{Constraints, offsetsShaped}
-use Rattle.scan_order.specs.Scan.{bayAt}
 use Rattle.legal.specs.Sets.{bays, setsOf, shapeVerdict, firstEmpty, emptyVerdict, allowedVerdict, setsAfter, Worked}
 
 -- the last link: refused, or the sets copied

@@ -8,7 +8,6 @@ use native.Mathlib.Omega.{arith}
 use lib.Dec.{eqb, ltb}
 use lib.ListN.{getD}
 use borrow.Author.Tests.{lt-ltb, eqb-true, eq-eqb}
-use Rattle.sets.specs.Set.{word}
 use Rattle.sets.proofs.Words.{word-same}
 use Rattle.sets.proofs.Operations.{word-none, word-only}
 use Rattle.sdc2d.specs.System.{System}

@@ -1,10 +1,7 @@
 -- A system that passed its tests is what the inner functions ask for. Assumes nothing.
-use Prim.Native.Nat.{ℕ, _<_}
 use mathlib.Core.Path.{_≡_}
-use lib.ListN.{length}
 use Rattle.units.specs.Refusals.{passes}
 use Rattle.sdc2d.specs.System.{System, systemVerdict}
-use Rattle.sdc2d.proofs.Ranges.{Shaped}
 use Rattle.sdc2d.proofs.Fine.{Fine, fine}
 use Rattle.legal_at.specs.OnGrid.{Grid}
 use Rattle.legal_at.proofs.SeedBelow.{seed-below}

@@ -1,6 +1,5 @@
 // Letters of a sequence: which bytes are letters, and the tests of a sequence's letters and length.
 ghost use mathlib.Core.Path.{_≡_};
-ghost use lib.ListN.{length};
 ghost use Rattle.units.specs.Refusals.{check};
 ghost use Rattle.letters.specs.Letters.{isLetter, firstBad, lettersVerdict, lengthVerdict};
 use units::Check;

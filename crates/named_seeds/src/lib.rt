@@ -5,7 +5,7 @@ ghost use Rattle.units.specs.Refusals.{check, Prints};
 ghost use Rattle.strand_names.specs.Names.{names, Readable};
 ghost use Rattle.seed_sizes.specs.Sizes.{seedList, seedCount, SeedsReadable};
 ghost use Rattle.named_seeds.specs.Seeds.{seedsVerdict, seedsAfter, seedTriples};
-ghost use mathlib.Core.List.{[], _∷_, _++_};
+ghost use mathlib.Core.List.{_∷_, _++_};
 ghost use Prim.Native.Nat.{_<_, ℕ, _+_, _*_, _≤_};
 ghost use Rattle.seed_checks.specs.Each.{seedRow, seedCol};
 use seed_checks::check_seeds;

@@ -1,14 +1,13 @@
 -- What a system that passed its tests is like: lengths, glue numbers below the count, seeds on the grid. Assumes nothing.
-use Prim.Native.Nat.{ℕ, zero, suc, _+_, _/_, _≤_, _<_}
-use mathlib.Core.Path.{_≡_, refl}
-use mathlib.Core.Bool.{Bool, true, false, cond, _&&_}
-use mathlib.Core.List.{List, [], _∷_}
-use native.Mathlib.Omega.{arith}
+use Prim.Native.Nat.{ℕ, _/_, _≤_, _<_}
+use mathlib.Core.Path.{_≡_}
+use mathlib.Core.Bool.{Bool}
+use mathlib.Core.List.{List}
 use lib.Dec.{ltb}
 use lib.ListN.{length, getD}
 use borrow.Author.Tests.{ltb-true, ltb-false}
 use Rattle.units.specs.Places.{firstFailing, placeVerdict}
-use Rattle.units.specs.Refusals.{Verdict, passes, _▷_}
+use Rattle.units.specs.Refusals.{passes, _▷_}
 use Rattle.units.proofs.Places.{none-fails}
 use Rattle.units.proofs.Verdicts.{no-fault, first-passes, rest-passes}
 use Rattle.table_checks.specs.Tables.{gluesVerdict, energiesVerdict}

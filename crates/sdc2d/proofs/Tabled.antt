@@ -2,13 +2,13 @@
 use Prim.Native.Nat.{ℕ, _+_, _/_}
 use mathlib.Core.Path.{refl}
 use mathlib.Core.Bool.{Bool, not, _&&_}
-use mathlib.Core.List.{List, [], _∷_}
+use mathlib.Core.List.{List, []}
 use lib.Dec.{ltb}
 use lib.Ieee.{Float}
 use lib.ListN.{length, drop}
 use Rattle.units.specs.Finite.{finite}
 use Rattle.units.specs.Places.{firstFailing, placeVerdict}
-use Rattle.units.specs.Refusals.{Verdict, _▷_}
+use Rattle.units.specs.Refusals.{_▷_}
 use Rattle.units.proofs.Verdicts.{Tabled, tabled-if, tabled-then}
 use Rattle.table_checks.specs.Tables.{isLog, gluesVerdict, energiesVerdict}
 use Rattle.sdc2d.specs.System.{System, sizesFit, lengthsFit, firstBadSeed, sizesVerdict, seedsVerdict, systemVerdict}

@@ -1,7 +1,6 @@
 // The sizes, counts and texts of seeds that are given by name.
 ghost use mathlib.Core.Path.{_≡_};
 ghost use mathlib.Core.Bool.{_&&_};
-ghost use mathlib.Core.List.{[]};
 ghost use Prim.Native.Nat.{_<_};
 ghost use lib.ListN.{length};
 ghost use Rattle.entries.specs.Entries.{offsetsFit};

@@ -1,7 +1,7 @@
 -- A set in several words: each law of one number, said of the words. `num k ws` is the long number that the words ws of k bits make, so every law of `Words`, `Members`, `NextMember`
 -- and `Walk` holds of it as it stands; here is how its bits, its ones and its members are found word by word.
 -- Assumes nothing; a law that wants it is handed that each word has k bits, which a slice of words knows of its elements.
-use mathlib.Core.Path.{_≡_, refl, sym, ap, ap₂, _∙_}
+use mathlib.Core.Path.{_≡_, sym, ap, ap₂, _∙_}
 use mathlib.Core.Bool.{false}
 use mathlib.Core.List.{List, [], _∷_, _++_, map}
 use Prim.Native.Nat.{ℕ, zero, suc, _+_, _*_, _-_, _/_, _%_, _^_, _≤_, _<_, zero-le}

@@ -1,6 +1,5 @@
 // The energy of a layout in kcal/mol, and what is refused of it.
 ghost use mathlib.Core.Path.{_≡_};
-ghost use mathlib.Core.Bool.{true};
 ghost use Prim.Native.Nat.{_≤_};
 ghost use Rattle.units.specs.Answers.{energyAnswer, energyRefusal};
 ghost use Rattle.units.specs.Refusals.{check, Prints, _▷_};

@@ -1,10 +1,9 @@
 -- From what the ledger's run answers and leaves to what the run over a grid does. Assumes nothing.
-use Prim.Native.Nat.{ℕ, _*_, _≤_, _<_}
-use mathlib.Core.Path.{_≡_, refl, sym, _∙_, ap, subst}
+use Prim.Native.Nat.{ℕ, _*_, _<_}
+use mathlib.Core.Path.{_≡_, sym, _∙_, ap, subst}
 use mathlib.Core.Bool.{Bool, true, false, not, cond}
 use mathlib.Core.List.{List}
 use native.Mathlib.Nat.{mul-pos}
-use native.Mathlib.Omega.{arith}
 use lib.Ieee.{Float, inf, lt}
 use lib.ListN.{length, getD}
 use borrow.Author.Tests.{not-true, not-false}
@@ -16,7 +15,7 @@ use Rattle.ledger_rows.specs.Blocks.{tab}
 use Rattle.ledger_rows.specs.Trace.{answer, answerRow, layout}
 use Rattle.ledger_fill.specs.Handed.{runScan}
 use Rattle.way_back.specs.Tracing.{inOrder}
-use Rattle.ledger.specs.Run.{ifAnswered, energiesAfter, notesAfter, orderAfter}
+use Rattle.ledger.specs.Run.{energiesAfter, notesAfter, orderAfter}
 use Rattle.least_layout.specs.Run.{rowByRow}
 use Rattle.system_run.specs.Steps.{OnBoard, Ran}
 use Rattle.system_run.proofs.Ordered.{length-trace, laid-out}

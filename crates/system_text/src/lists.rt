@@ -1,5 +1,4 @@
 // The lists of a system: glues, logarithms and seeds.
-ghost use Prim.Native.Nat.{_≤_};
 ghost use lib.ListN.{length};
 ghost use Rattle.system_text.specs.Within.{ListsWithin};
 use field_reads::floats_field;

@@ -7,9 +7,9 @@ use lib.Ieee.{Float}
 use Rattle.units.specs.declared.BaseEnergy.{BaseEnergy}
 use Rattle.units.specs.declared.Refusal.{Refusal}
 use Rattle.units.specs.declared.Check.{Check}
-use Rattle.units.specs.declared.Check.the-variants.{Passed, Refused}
+use Rattle.units.specs.declared.Check.the-variants.{Refused}
 use Rattle.units.specs.declared.BaseEnergyAnswer.{BaseEnergyAnswer}
-use Rattle.units.specs.declared.BaseEnergyAnswer.the-variants.{Found, Refused as BaseEnergy·Refused}
+use Rattle.units.specs.declared.BaseEnergyAnswer.the-variants.{Refused as BaseEnergy·Refused}
 use Rattle.units.specs.declared.EnergyAnswer.{EnergyAnswer}
 use Rattle.units.specs.declared.EnergyAnswer.the-variants.{Energy, Refused as Energy·Refused}
 use Rattle.units.specs.declared.HundredthsAnswer.{HundredthsAnswer}

@@ -1,6 +1,6 @@
 -- How a chain of tests is followed through the code, and that an answer prints what the tests came to. Assumes nothing.
 use Prim.Native.Nat.{ℕ, _≤_, max}
-use mathlib.Core.Path.{_≡_, refl, ap, sym, subst, _∙_}
+use mathlib.Core.Path.{_≡_, refl, sym, subst}
 use mathlib.Core.Bool.{Bool, true, false, cond}
 use mathlib.Core.List.{List, [], _∷_}
 use native.Mathlib.Omega.{arith}
@@ -9,7 +9,7 @@ use lib.ListN.{length, getD, take}
 use Rattle.units.specs.declared.Refusal.{Refusal}
 use Rattle.units.specs.declared.Check.{Check}
 use Rattle.units.specs.declared.Check.the-variants.{Passed, Refused}
-use Rattle.units.specs.Refusals.{Verdict, passes, refuses, refuseIf, _▷_, refusal, check, ifPasses, valueRows, countIn, valueCount, Prints}
+use Rattle.units.specs.Refusals.{Verdict, passes, refuses, refuseIf, _▷_, check, ifPasses, valueRows, countIn, valueCount, Prints}
 
 -- a first test that refused decides the chain, and one that passed leaves it to the rest
 pub refused-first : {x : Check} {r : Refusal} (v w : Verdict) → x ≡ check v → x ≡ Refused r → Refused r ≡ check (v ▷ w)

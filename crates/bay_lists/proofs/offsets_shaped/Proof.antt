@@ -1,5 +1,5 @@
 -- `bay_lists::offsets_shaped` meets its contract, test by test. Assumes nothing.
-use mathlib.Core.Path.{_≡_, sym, _∙_}
+use mathlib.Core.Path.{sym, _∙_}
 use borrow.Author.Needs.{needs}
 use borrow.Author.Tests.{not-true, not-false, eq-eqb, ne-eqb}
 use Rattle.bay_lists.proofs.offsets_shaped.Statement.{statement}

@@ -1,5 +1,5 @@
 -- `bay_names::bay_width` meets its contract. Assumes nothing.
-use mathlib.Core.Path.{_∙_, ap}
+use mathlib.Core.Path.{_∙_}
 use borrow.Author.Tests.{eq-eqb, ne-eqb}
 use borrow.Author.Needs.{needs}
 use Rattle.bay_names.specs.Bays.{bayText, begun, characterCount}

@@ -1,6 +1,5 @@
 -- `beta_energies::edge_beta_between` meets its contract: each bond is read within the matrices. Assumes nothing.
-use Prim.Native.Nat.{_+_, _*_}
-use mathlib.Core.Path.{_≡_, sym, _∙_}
+use mathlib.Core.Path.{sym, _∙_}
 use native.Mathlib.Omega.{arith}
 use lib.Ieee.{ofBits}
 use denote.Ref.{now}

@@ -1,6 +1,4 @@
 -- `beta_energies::site_beta_energy` meets its contract: the scaffold bond is read within the matrices. Assumes nothing.
-use Prim.Native.Nat.{_+_, _*_}
-use mathlib.Core.Path.{_≡_, sym, _∙_}
 use native.Mathlib.Omega.{arith}
 use lib.Ieee.{ofBits}
 use denote.Ref.{now}

@@ -1,13 +1,12 @@
 -- `binding_strands::binds` meets its contract: the strand's bottom glue is below the count. Assumes nothing.
-use Prim.Native.Nat.{_+_, _*_, _<_}
+use Prim.Native.Nat.{_+_, _*_}
 use mathlib.Core.Path.{_∙_, ap}
-use lib.ListN.{length, getD}
 use native.Mathlib.Omega.{arith}
 use denote.Ref.{now}
 use borrow.Author.Needs.{needs}
 use Rattle.units.specs.declared.StrandGlues.{StrandGlues}
 use Rattle.units.specs.Glues.{bottomOf}
-use Rattle.glue_readers.specs.Tables.{cellOf, gluesOf}
+use Rattle.glue_readers.specs.Tables.{cellOf}
 use Rattle.binding_strands.specs.Binding.{isBond}
 use Rattle.binding_strands.proofs.binds.Statement.{statement}
 use Rattle.binding_strands.proofs.binds.Tie as tie

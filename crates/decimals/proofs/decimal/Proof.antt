@@ -1,7 +1,6 @@
 -- `decimals::decimal` meets its contract: no bytes, a minus first, or none. Assumes nothing.
-use mathlib.Core.Path.{sym, _∙_, ap}
 use borrow.Author.Tests.{eq-eqb, ne-eqb}
-use Rattle.decimals.specs.Decimals.{decimalOf, signedOf}
+use Rattle.decimals.specs.Decimals.{decimalOf}
 use Rattle.decimals.proofs.Parts.{no-bytes}
 use borrow.Author.Needs.{needs}
 use Rattle.decimals.proofs.decimal.Statement.{statement}

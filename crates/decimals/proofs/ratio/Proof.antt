@@ -1,6 +1,6 @@
 -- `decimals::ratio` meets its contract. Assumes nothing.
-use mathlib.Core.Path.{sym, _∙_, ap}
-use lib.Ieee.{Float, binary64, neg, round}
+use mathlib.Core.Path.{sym}
+use lib.Ieee.{binary64}
 use Prim.Native.Nat.{_^_}
 use Rattle.floats.proofs.Round.{round-mirror}
 use Rattle.units.specs.Decimals.{decimal}

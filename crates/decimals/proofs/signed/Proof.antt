@@ -1,5 +1,5 @@
 -- `decimals::signed` meets its contract: its form, its places, its digits. Assumes nothing.
-use mathlib.Core.Path.{sym, _∙_, ap}
+use mathlib.Core.Path.{sym, _∙_}
 use native.Mathlib.Omega.{arith}
 use borrow.Author.Tests.{not-true, not-false}
 use Rattle.decimals.proofs.Parts.{whole-fits, not-formed, too-many-places, put-together}

@@ -1,5 +1,4 @@
 -- `energy_hundredths::less` meets its contract: both numbers are small, so nothing wraps. Assumes nothing.
-use mathlib.Core.Path.{_≡_}
 use mir.Syntax.{w32}
 use mir.ValLaws.{toZ-ofZ}
 use borrow.Author.Needs.{needs}

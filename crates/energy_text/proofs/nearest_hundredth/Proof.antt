@@ -1,6 +1,6 @@
 -- `energy_text::nearest_hundredth` meets its contract. Assumes nothing.
 use mathlib.Core.Path.{_∙_, ap}
-use lib.Ieee.{Float, binary64}
+use lib.Ieee.{binary64}
 use lib.Ieee.Bits.{ofBits-toBits}
 use lib.Ieee.Compare.{differs-from-itself}
 use Rattle.answer_texts.proofs.Spelling.{no-nan}

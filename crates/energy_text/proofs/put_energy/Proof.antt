@@ -1,5 +1,5 @@
 -- `energy_text::put_energy` meets its contract. Assumes nothing.
-use mathlib.Core.Path.{sym, _∙_, ap}
+use mathlib.Core.Path.{sym, _∙_}
 use borrow.Author.Tests.{not-true, not-false}
 use Rattle.answer_texts.proofs.Putting.{put-as, then-put}
 use Rattle.energy_text.proofs.Texts.{without-hundredths, with-a-minus, without-a-minus}

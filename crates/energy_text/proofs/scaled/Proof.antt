@@ -1,5 +1,5 @@
 -- `energy_text::scaled` meets its contract. Assumes nothing.
-use Prim.Native.Nat.{_-_, _^_}
+use Prim.Native.Nat.{_-_}
 use native.Mathlib.Omega.{arith}
 use lib.Pow.{pow-pos}
 use Rattle.energy_text.proofs.Scaling.{shifted-out, unit-bound}

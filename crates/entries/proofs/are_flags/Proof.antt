@@ -1,5 +1,5 @@
 -- `entries::are_flags` meets its contract. The invariant: all that is left decides. Assumes nothing.
-use Prim.Native.Nat.{_+_, _-_, _≤_}
+use Prim.Native.Nat.{_-_, _≤_}
 use mathlib.Core.Path.{_≡_, _∙_, sym, refl}
 use native.Mathlib.Omega.{arith}
 use lib.ListN.{length, drop}

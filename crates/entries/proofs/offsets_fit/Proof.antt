@@ -1,5 +1,5 @@
 -- `entries::offsets_fit` meets its contract. The invariant: all that is left decides, after the last offset. Assumes nothing.
-use Prim.Native.Nat.{_+_, _-_, _≤_}
+use Prim.Native.Nat.{_-_, _≤_}
 use mathlib.Core.Path.{_≡_, _∙_, sym, refl}
 use native.Mathlib.Omega.{arith}
 use lib.ListN.{length, drop}

@@ -1,10 +1,8 @@
 -- `glue_readers::cell` meets its contract: row a, place b lies within a square. Assumes nothing.
-use Prim.Native.Nat.{ℕ, _+_, _*_, _≤_, _<_}
+use Prim.Native.Nat.{_+_, _*_, _≤_, _<_}
 use native.Mathlib.Nat.{mul-le-mul}
 use native.Mathlib.Omega.{arith}
 use lib.Arith.{digits-lt}
-use lib.ListN.{length}
-use denote.Ref.{now}
 use borrow.Author.Needs.{needs}
 use Rattle.glue_readers.proofs.cell.Statement.{statement}
 use Rattle.glue_readers.proofs.cell.Tie as tie

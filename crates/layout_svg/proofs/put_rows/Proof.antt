@@ -3,7 +3,6 @@ use Prim.Native.Nat.{_-_}
 use native.Mathlib.Omega.{arith}
 use Rattle.strand_names.specs.Names.{names}
 use Rattle.layout_svg.proofs.Rows.{Grid, grid-starts, grid-goes-on, grid-ends}
-use borrow.Author.Needs.{needs}
 use Rattle.layout_svg.proofs.put_rows.Statement.{statement}
 use Rattle.layout_svg.proofs.put_rows.Tie as tie
 

@@ -1,11 +1,7 @@
 -- `layout_text::put_bay` meets its contract. Assumes nothing.
-use Prim.Native.Nat.{ℕ}
-use mathlib.Core.List.{List}
-use mathlib.Core.Path.{_∙_, ap}
 use borrow.Author.Tests.{eq-eqb, ne-eqb}
 use Rattle.answer_texts.proofs.Putting.{put-as}
 use Rattle.bay_names.specs.Bays.{bayText}
-use Rattle.layout_text.specs.Grid.{cellText}
 use borrow.Author.Needs.{needs}
 use Rattle.layout_text.proofs.put_bay.Statement.{statement}
 use Rattle.layout_text.proofs.put_bay.Tie as tie

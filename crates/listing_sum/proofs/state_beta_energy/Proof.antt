@@ -5,7 +5,6 @@ use native.Mathlib.Omega.{arith}
 use lib.Ieee.{ofBits}
 use lib.ListN.{length}
 use denote.Ref.{now}
-use borrow.Author.Needs.{needs}
 use Rattle.units.specs.Decimals.{decimal}
 use Rattle.listing_sum.proofs.Sums.{from-nothing, one-bay-more}
 use Rattle.listing_sum.specs.Listing.{listing}

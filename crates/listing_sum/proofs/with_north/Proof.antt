@@ -1,5 +1,4 @@
 -- `listing_sum::with_north` meets its contract: past the first row there is a bay to the north. Assumes nothing.
-use mathlib.Core.Path.{_∙_}
 use native.Mathlib.Omega.{arith}
 use denote.Ref.{now}
 use borrow.Author.Needs.{needs}

@@ -1,5 +1,4 @@
 -- `listing_sum::with_west` meets its contract: past the first column there is a bay to the west. Assumes nothing.
-use mathlib.Core.Path.{_∙_}
 use native.Mathlib.Omega.{arith}
 use denote.Ref.{now}
 use borrow.Author.Needs.{needs}

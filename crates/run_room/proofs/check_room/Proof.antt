@@ -1,10 +1,9 @@
 -- `run_room::check_room` meets its contract: the need itself, then one table, then the other. Assumes nothing.
-use mathlib.Core.Path.{_≡_, sym, _∙_, ap}
 use mathlib.Core.List.{[], _∷_}
 use lib.Dec.{ltb}
 use borrow.Author.Needs.{needs}
 use borrow.Author.Tests.{lt-ltb, le-ltb}
-use Rattle.units.specs.Refusals.{check, refuseIf, _▷_}
+use Rattle.units.specs.Refusals.{refuseIf}
 use Rattle.units.proofs.Verdicts.{refused-first, passed-first}
 use Rattle.run_room.proofs.EitherTable.{either-refuses}
 use Rattle.run_room.proofs.check_room.Statement.{statement}

@@ -1,7 +1,6 @@
 -- `scan_order::bay_at` meets its contract. Assumes nothing.
-use Prim.Native.Nat.{_%_, _/_, _*_, _≤_, _<_}
-use mathlib.Core.Path.{_≡_}
-use native.Mathlib.Nat.{mod-lt, mul-le-mul, le-of-lt}
+use Prim.Native.Nat.{_%_, _*_, _≤_, _<_}
+use native.Mathlib.Nat.{mod-lt, mul-le-mul}
 use native.Mathlib.Omega.{arith}
 use borrow.Author.Tests.{le-leb, lt-leb}
 use Rattle.scan_order.proofs.Scanned.{some-row, column}

@@ -1,5 +1,5 @@
 -- `scan_order::number_at` meets its contract. Assumes nothing.
-use Prim.Native.Nat.{_%_, _/_, _*_, _≤_, _<_}
+use Prim.Native.Nat.{_%_, _*_, _≤_, _<_}
 use native.Mathlib.Nat.{mod-lt, mul-le-mul}
 use native.Mathlib.Omega.{arith}
 use borrow.Author.Tests.{le-leb, lt-leb}

@@ -1,11 +1,10 @@
 -- `scan_tables::fill_scan` meets its contract. The invariant: the first k sets of the scan are written. Assumes nothing.
-use Prim.Native.Nat.{ℕ, _+_, _*_, _-_, _≤_, _<_}
+use Prim.Native.Nat.{ℕ, _*_, _-_, _≤_, _<_}
 use mathlib.Core.Path.{_≡_, refl, sym, _∙_, ap}
 use native.Mathlib.Nat.{mul-le-mul}
 use native.Mathlib.Omega.{arith}
 use lib.ListN.{length, getD, take, length-set}
 use denote.Ref.{now}
-use borrow.Author.Needs.{needs}
 use borrow.Author.Needs.{scaled-fits}
 use Rattle.scan_order.specs.Scan.{bayAt}
 use Rattle.scan_order.proofs.Scanned.{bay-inside}

@@ -1,5 +1,5 @@
 -- `scan_tables::window` meets its contract. Assumes nothing.
-use mathlib.Core.Path.{_≡_, sym, _∙_}
+use mathlib.Core.Path.{sym, _∙_}
 use borrow.Author.Needs.{needs}
 use Rattle.scan_tables.proofs.window.Statement.{statement}
 use Rattle.scan_tables.proofs.window.Tie as tie

@@ -1,6 +1,6 @@
 -- `table_checks::check_energies` meets its contract: ΔG, then ΔS, then the logarithms. Assumes nothing.
 use Prim.Native.Nat.{_+_, _-_}
-use mathlib.Core.Path.{_≡_, _∙_}
+use mathlib.Core.Path.{_≡_}
 use lib.ListN.{length, take, drop, length-drop}
 use lib.Seq.{take-all}
 use native.Mathlib.Omega.{arith}
@@ -11,7 +11,7 @@ use borrow.Author.Needs.{needs}
 use Rattle.units.proofs.Verdicts.{refused-first, passed-first}
 use Rattle.units.specs.Finite.{finite}
 use Rattle.units.specs.Places.{placeVerdict}
-use Rattle.units.specs.Refusals.{Verdict, _▷_, check}
+use Rattle.units.specs.Refusals.{Verdict, _▷_}
 use Rattle.table_checks.proofs.Placed.{placed}
 use Rattle.table_checks.specs.Tables.{isLog, energiesVerdict}
 use Rattle.table_checks.proofs.check_energies.Statement.{statement}

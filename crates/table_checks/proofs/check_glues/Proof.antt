@@ -1,14 +1,12 @@
 -- `table_checks::check_glues` meets its contract: strand glues first, then the scaffold. Assumes nothing.
 use Prim.Native.Nat.{ℕ}
 use mathlib.Core.Bool.{Bool}
-use mathlib.Core.Path.{_≡_, _∙_}
 use lib.Dec.{ltb}
 use lib.ListN.{length}
 use denote.Ref.{now}
 use borrow.Author.Needs.{needs}
 use Rattle.units.proofs.Verdicts.{refused-first, passed-first}
 use Rattle.units.specs.Places.{placeVerdict}
-use Rattle.units.specs.Refusals.{_▷_, check}
 use Rattle.table_checks.proofs.Placed.{placed}
 use Rattle.table_checks.proofs.check_glues.Statement.{statement}
 use Rattle.table_checks.proofs.check_glues.Tie as tie

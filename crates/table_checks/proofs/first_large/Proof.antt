@@ -1,12 +1,10 @@
 -- `table_checks::first_large` meets its contract. The invariant: the first is found by going on from i. Assumes nothing.
-use Prim.Native.Nat.{ℕ, _+_, _-_, _≤_}
-use mathlib.Core.Bool.{Bool}
+use Prim.Native.Nat.{_+_, _-_, _≤_}
 use mathlib.Core.Path.{_≡_, _∙_, sym}
 use native.Mathlib.Nat.{zero-add}
 use native.Mathlib.Omega.{arith}
 use lib.Dec.{ltb}
 use lib.ListN.{length, drop}
-use denote.Ref.{now}
 use borrow.Author.Needs.{scaled-fits}
 use borrow.Author.Tests.{le-ltb, lt-ltb}
 use Rattle.units.proofs.Places.{passed, stopped, ended}

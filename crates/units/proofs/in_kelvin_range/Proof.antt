@@ -1,5 +1,4 @@
 -- `units::in_kelvin_range` meets its contract: the ends of the code are the printed numbers. Assumes nothing.
-use mathlib.Core.Path.{refl}
 use lib.Ieee.{ofBits}
 use Rattle.units.specs.Decimals.{decimal}
 use Rattle.units.proofs.in_kelvin_range.Statement.{statement}

@@ -1,5 +1,4 @@
 -- `answers_keys::keys::cells` fits: the side is not past 257. Assumes nothing.
-use Prim.Native.Nat.{_≤_, _*_}
 use native.Mathlib.Omega.{arith}
 use native.Mathlib.Nat.{mul-le-mul}
 use borrow.Author.Needs.{needs}

@@ -2,7 +2,6 @@
 use Prim.Native.Nat.{_-_}
 use native.Mathlib.Omega.{arith}
 use lib.ListN.{length}
-use borrow.Author.Needs.{needs}
 use Rattle.answers_keys.proofs.matrices.all_floats.Statement.{statement}
 use Rattle.answers_keys.proofs.matrices.all_floats.Tie as tie
 

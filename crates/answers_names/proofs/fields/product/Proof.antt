@@ -1,5 +1,4 @@
 -- `answers_names::fields::product` fits: neither side is past 257. Assumes nothing.
-use Prim.Native.Nat.{_≤_, _*_}
 use native.Mathlib.Omega.{arith}
 use native.Mathlib.Nat.{mul-le-mul}
 use borrow.Author.Needs.{needs}

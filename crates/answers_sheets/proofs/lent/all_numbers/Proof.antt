@@ -2,7 +2,6 @@
 use Prim.Native.Nat.{_-_}
 use native.Mathlib.Omega.{arith}
 use lib.ListN.{length}
-use borrow.Author.Needs.{needs}
 use Rattle.answers_sheets.proofs.lent.all_numbers.Statement.{statement}
 use Rattle.answers_sheets.proofs.lent.all_numbers.Tie as tie
 

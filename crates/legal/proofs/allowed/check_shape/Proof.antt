@@ -1,9 +1,8 @@
 -- `legal::allowed::check_shape` meets its contract. Assumes nothing.
 use Prim.Native.Nat.{_*_, _≤_}
-use mathlib.Core.Path.{_≡_, sym, _∙_}
+use mathlib.Core.Path.{sym, _∙_}
 use native.Mathlib.Nat.{mul-le-mul}
 use native.Mathlib.Omega.{arith}
-use denote.Ref.{now}
 use borrow.Author.Tests.{eq-eqb, ne-eqb}
 use Rattle.legal.proofs.allowed.check_shape.Statement.{statement}
 use Rattle.legal.proofs.allowed.check_shape.Tie as tie

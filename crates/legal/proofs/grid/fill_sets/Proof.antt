@@ -1,10 +1,9 @@
 -- `legal::grid::fill_sets` meets its contract. The invariant: the sets of the bays before stand at the front, and the rest is as it was. Assumes nothing.
-use Prim.Native.Nat.{_+_, _-_, _≤_, _<_}
+use Prim.Native.Nat.{_-_, _≤_, _<_}
 use mathlib.Core.Path.{_≡_, refl, sym, _∙_, ap}
 use native.Mathlib.Omega.{arith}
 use lib.ListN.{length, take, drop, length-set}
 use denote.Ref.{now}
-use borrow.Author.Needs.{needs}
 use borrow.Author.Needs.{scaled-fits}
 use Rattle.legal_at.specs.Legal.{legalAt}
 use Rattle.bay_lists.specs.Lists.{constraints}

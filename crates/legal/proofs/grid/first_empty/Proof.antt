@@ -1,15 +1,13 @@
 -- `legal::grid::first_empty` meets its contract. The invariant: no bay scanned so far is without a strand. Assumes nothing.
-use Prim.Native.Nat.{ℕ, suc, _+_, _*_, _-_, _≤_, _<_}
-use mathlib.Core.Path.{_≡_, refl, sym, _∙_, ap}
+use Prim.Native.Nat.{ℕ, _*_, _-_, _≤_, _<_}
+use mathlib.Core.Path.{_≡_, sym, _∙_, ap}
 use native.Mathlib.Nat.{sub-zero}
 use native.Mathlib.Omega.{arith}
 use lib.ListN.{length, getD}
 use denote.Ref.{now}
-use borrow.Author.Needs.{needs}
 use borrow.Author.Needs.{scaled-fits}
 use Rattle.legal.proofs.Emptiness.{found-here, one-on, none-left}
 use Rattle.scan_order.proofs.Scanned.{bay-inside}
-use Rattle.scan_order.specs.Scan.{bayAt}
 use Rattle.legal.specs.Sets.{firstEmpty}
 use Rattle.legal.proofs.grid.first_empty.Statement.{statement}
 use Rattle.legal.proofs.grid.first_empty.Tie as tie

@@ -1,16 +1,16 @@
 -- `legal::grid::grid_sets` meets its contract: the sets are written and the rest is kept, then they are searched. Assumes nothing.
-use Prim.Native.Nat.{ℕ, _*_, _≤_}
-use mathlib.Core.Path.{_≡_, sym, _∙_, ap}
+use Prim.Native.Nat.{ℕ}
+use mathlib.Core.Path.{sym, _∙_, ap}
 use mathlib.Core.Bool.{Bool}
 use mathlib.Core.List.{List}
-use lib.ListN.{length, take}
+use lib.ListN.{length}
 use denote.Ref.{now}
 use borrow.Author.Needs.{needs}
 use Rattle.units.specs.Refusals.{check}
 use Rattle.legal_at.specs.Legal.{legalAt}
 use Rattle.bay_lists.specs.Lists.{constraints}
 use Rattle.legal.proofs.Fronts.{length-sets}
-use Rattle.legal.specs.Sets.{setsTo, emptyVerdict}
+use Rattle.legal.specs.Sets.{emptyVerdict}
 use Rattle.legal.proofs.grid.grid_sets.Statement.{statement}
 use Rattle.legal.proofs.grid.grid_sets.Tie as tie
 

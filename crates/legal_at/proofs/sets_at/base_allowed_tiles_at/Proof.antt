@@ -1,7 +1,7 @@
 -- `legal_at::sets_at::base_allowed_tiles_at` meets its contract, by the bay's seed. Assumes nothing.
 use Prim.Native.Nat.{ℕ}
 use mathlib.Core.Bool.{_&&_}
-use mathlib.Core.Path.{_≡_, _∙_, ap}
+use mathlib.Core.Path.{_∙_, ap}
 use lib.Dec.{ltb}
 use denote.Ref.{now}
 use borrow.Author.Needs.{needs}

@@ -1,11 +1,9 @@
 -- `run_tables::bonds_of::fill_bonds` meets its contract. The invariant: the first i pairs are written. Assumes nothing.
-use Prim.Native.Nat.{ℕ, _+_, _-_, _/_, _%_, _≤_, _<_}
-use mathlib.Core.Path.{_≡_, refl, sym, _∙_, ap}
+use Prim.Native.Nat.{ℕ, _-_, _/_, _%_, _≤_}
+use mathlib.Core.Path.{_≡_, refl, _∙_}
 use native.Mathlib.Omega.{arith}
-use lib.Ieee.{Float}
 use lib.ListN.{length, take, length-set}
 use denote.Ref.{now}
-use borrow.Author.Needs.{needs}
 use borrow.Author.Needs.{scaled-fits}
 use Rattle.ledger_rows.specs.Blocks.{tab}
 use Rattle.run_tables.specs.Tables.{pairEnergy}

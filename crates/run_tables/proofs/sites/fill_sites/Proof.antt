@@ -1,12 +1,11 @@
 -- `run_tables::sites::fill_sites` meets its contract. The invariant: the first i energies are written. Assumes nothing.
-use Prim.Native.Nat.{ℕ, _+_, _*_, _-_, _/_, _%_, _≤_, _<_}
-use mathlib.Core.Path.{_≡_, refl, sym, _∙_, ap, subst}
+use Prim.Native.Nat.{ℕ, _*_, _-_, _/_, _%_, _≤_, _<_}
+use mathlib.Core.Path.{_≡_, refl, sym, _∙_, ap}
 use native.Mathlib.Nat.{mul-le-mul, div-lt-iff-lt-mul}
 use native.Mathlib.Omega.{arith}
 use lib.Ieee.{Float}
 use lib.ListN.{length, take, length-set}
 use denote.Ref.{now}
-use borrow.Author.Needs.{needs}
 use borrow.Author.Needs.{scaled-fits}
 use Rattle.scan_order.specs.Scan.{bayAt}
 use Rattle.scan_order.proofs.Scanned.{bay-inside}

@@ -1,8 +1,6 @@
 -- `run_tables::sites::site_energy` meets its contract. Assumes nothing.
 use lib.Ieee.{ofBits}
-use borrow.Author.Needs.{needs}
 use borrow.Author.Tests.{lt-ltb, le-ltb}
-use Rattle.beta_energies.specs.OnBay.{OnBay}
 use Rattle.units.specs.Decimals.{decimal}
 use Rattle.run_tables.proofs.sites.site_energy.Statement.{statement}
 use Rattle.run_tables.proofs.sites.site_energy.Tie as tie

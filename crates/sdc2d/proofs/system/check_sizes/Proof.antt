@@ -1,5 +1,5 @@
 -- `sdc2d::system::check_sizes` meets its contract: sizes first, then lengths. Assumes nothing.
-use mathlib.Core.Path.{_≡_, _∙_, sym}
+use mathlib.Core.Path.{_∙_, sym}
 use borrow.Author.Needs.{needs}
 use Rattle.sdc2d.proofs.system.check_sizes.Statement.{statement}
 use Rattle.sdc2d.proofs.system.check_sizes.Tie as tie

@@ -1,11 +1,11 @@
 -- `sdc2d::system::check_system` meets its contract: the chain of tests is followed link by link. Assumes nothing.
-use mathlib.Core.Path.{_≡_, refl, _∙_, sym}
+use mathlib.Core.Path.{_≡_, _∙_}
 use native.Mathlib.Nat.{mul-le-mul}
 use native.Mathlib.Omega.{arith}
 use denote.Ref.{now}
 use borrow.Author.Needs.{needs}
 use Rattle.units.proofs.Verdicts.{refused-first, passed, passed-first, printed}
-use Rattle.units.specs.Refusals.{Verdict, passes, check, _▷_}
+use Rattle.units.specs.Refusals.{Verdict, _▷_}
 use Rattle.sdc2d.proofs.Ranges.{Shaped, shaped}
 use Rattle.sdc2d.proofs.Tabled.{system-tabled}
 use Rattle.table_checks.specs.Tables.{gluesVerdict, energiesVerdict}

@@ -1,5 +1,5 @@
 -- `state_energy::state::answered` meets its contract. Assumes nothing.
-use mathlib.Core.Path.{_≡_, sym, _∙_}
+use mathlib.Core.Path.{sym, _∙_}
 use borrow.Author.Needs.{needs}
 use Rattle.state_energy.proofs.state.answered.Statement.{statement}
 use Rattle.state_energy.proofs.state.answered.Tie as tie

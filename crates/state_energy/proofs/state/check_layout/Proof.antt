@@ -1,7 +1,4 @@
 -- `state_energy::state::check_layout` meets its contract: the length first, then the strands. Assumes nothing.
-use Prim.Native.Nat.{ℕ}
-use mathlib.Core.Path.{_≡_, _∙_}
-use mathlib.Core.Bool.{Bool}
 use native.Mathlib.Nat.{mul-le-mul}
 use native.Mathlib.Omega.{arith}
 use lib.Dec.{ltb}

@@ -1,5 +1,4 @@
 -- `state_energy::state::check_state` meets its contract: the system's tests, then the layout's. Assumes nothing.
-use mathlib.Core.Path.{_≡_, _∙_}
 use denote.Ref.{now}
 use borrow.Author.Needs.{needs}
 use Rattle.units.proofs.Verdicts.{refused-first, passed, passed-first}

@@ -1,5 +1,5 @@
 -- `state_energy::state::state_g` meets its contract: the tests refuse, or the sum is answered. Assumes nothing.
-use mathlib.Core.Path.{_≡_, refl, _∙_}
+use mathlib.Core.Path.{refl}
 use denote.Ref.{now}
 use borrow.Author.Needs.{needs}
 use Rattle.units.proofs.Answers.{an-energy, refused, given}

@@ -1,5 +1,5 @@
 -- `system_run::system::run_system` meets its contract: the tables hold what their definitions say. Assumes nothing.
-use mathlib.Core.Path.{_≡_, _∙_, ap}
+use mathlib.Core.Path.{_∙_, ap}
 use mathlib.Core.Bool.{Bool, not}
 use mathlib.Core.List.{List}
 use lib.Ieee.{Float}

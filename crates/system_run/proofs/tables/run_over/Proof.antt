@@ -1,5 +1,5 @@
 -- `system_run::tables::run_over` meets its contract: the ledger's run, then the layout unless the sum is none. Assumes nothing.
-use mathlib.Core.Path.{_≡_, sym, _∙_, ap, subst}
+use mathlib.Core.Path.{sym, subst}
 use Prim.Native.Nat.{ℕ}
 use lib.ListN.{length}
 use denote.Ref.{now}
