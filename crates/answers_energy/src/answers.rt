@@ -1,7 +1,7 @@
 // Answer lines: a refusal, else the energy.
-use answer_lines::put_float;
-use answer_lines::put_text;
-use answer_lines::refused;
+use case_answer_lines::put_float;
+use case_answer_lines::put_text;
+use case_answer_lines::refused;
 use units::EnergyAnswer;
 
 pub(crate) fn energy(out: &mut [u8], answer: EnergyAnswer) -> usize {

@@ -1,11 +1,11 @@
 // The call: fields are read, the library is asked, and the answer is put down.
 use crate::answers;
-use answer_lines::unreadable;
+use bay_system::Sizes;
+use case_answer_lines::unreadable;
+use case_systems::read_system;
+use case_systems::small_numbers_field;
 use case_text::first_floats;
 use case_text::first_small_numbers;
-use sdc2d::Sizes;
-use system_text::read_system;
-use system_text::small_numbers_field;
 
 // Whether a system and a layout could be read.
 fn both(system: bool, layout: bool) -> bool {
@@ -28,7 +28,7 @@ fn state_g_asked(
     if !readable {
         return unreadable(out);
     }
-    let answer = state_energy::state_g(
+    let answer = energy_state::state_g(
         sizes,
         strand_glues,
         scaffold,

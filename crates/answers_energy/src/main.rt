@@ -2,7 +2,7 @@
 mod answers;
 mod calls;
 
-use answer_lines::put_text;
+use case_answer_lines::put_text;
 use case_text::call_name;
 use case_text::is_case;
 use case_text::line_end;
@@ -15,7 +15,7 @@ fn answer(line: &[u8], out: &mut [u8]) -> usize {
     if same(call_name(line), b"state_g") {
         return calls::state_g(line, out);
     }
-    answer_lines::unreadable(out)
+    case_answer_lines::unreadable(out)
 }
 
 // Writes the answer to one line, if it is a case.

@@ -9,11 +9,11 @@ use crate::reading::TextsRead;
 use crate::reading::read_lists;
 use crate::reading::read_numbers;
 use crate::reading::read_texts;
-use answer_lines::refused_with_tables;
-use answer_lines::unreadable;
+use case_answer_lines::refused_with_tables;
+use case_answer_lines::unreadable;
+use case_field_reads::at_most;
+use case_field_reads::floats_field;
 use case_text::first_floats;
-use field_reads::at_most;
-use field_reads::floats_field;
 use units::Check;
 
 // Asks with the very matrices that are lent.
@@ -28,7 +28,7 @@ fn keys_into(
     entropy: &mut [f64],
     out: &mut [u8],
 ) -> usize {
-    let answer = energy_keys::energy_keys(
+    let answer = name_energy_keys::energy_keys(
         bytes_from(bytes, 0, texts.text),
         numbers_from(numbers, 0, lists.offsets),
         bytes_from(bytes, 32800, texts.paired),

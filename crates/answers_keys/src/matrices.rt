@@ -1,7 +1,7 @@
 // The two matrices: whether each place still holds what it held at first, and the cells that hold something, as text.
-use answer_lines::put_floats;
-use answer_lines::put_text;
-use answer_lines::put_value;
+use case_answer_lines::put_floats;
+use case_answer_lines::put_text;
+use case_answer_lines::put_value;
 
 // One cell of row i and column j, unless both floats are 0.0.
 fn put_cell(out: &mut [u8], at: usize, i: usize, j: usize, dg: f64, ds: f64) -> usize {

@@ -70,12 +70,12 @@ pub(crate) fn numbers_between(
 
 // So many bytes of a table from a place on, as far as it goes.
 pub(crate) fn bytes_from<'a>(table: &'a [u8], from: usize, count: usize) -> &'a [u8] {
-    let at = field_reads::at_most(from, table.len());
+    let at = case_field_reads::at_most(from, table.len());
     case_text::first_bytes(&table[at..], count)
 }
 
 // So many numbers of a table from a place on, as far as it goes.
 pub(crate) fn numbers_from<'a>(table: &'a [usize], from: usize, count: usize) -> &'a [usize] {
-    let at = field_reads::at_most(from, table.len());
+    let at = case_field_reads::at_most(from, table.len());
     case_text::first_numbers(&table[at..], count)
 }

@@ -3,10 +3,10 @@ use crate::parts::bytes_between;
 use crate::parts::is_read;
 use crate::parts::numbers_between;
 use crate::parts::text_between;
+use case_field_reads::is_number;
+use case_field_reads::number_in;
 use case_fields::number_field;
 use case_fields::number_or;
-use field_reads::is_number;
-use field_reads::number_in;
 
 // Whether the texts and bytes of a case could be read, and the length of each.
 pub(crate) struct TextsRead {

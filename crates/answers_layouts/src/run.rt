@@ -1,9 +1,9 @@
 // A run: its need is asked with empty tables, then tables of sevens are lent, as long as the case says, and what became of them is told.
 use crate::lines::put_run;
-use answer_lines::unreadable;
+use bay_system::Sizes;
+use case_answer_lines::unreadable;
 use case_fields::number_or;
 use case_text::Number;
-use sdc2d::Sizes;
 use sdc2d_thermo::mfe_configuration;
 use units::EnergyAnswer;
 

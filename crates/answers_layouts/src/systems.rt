@@ -1,12 +1,12 @@
 // A system and its constraints are read from their line, and a run is asked of them.
 use crate::run::run;
 use crate::run::table_length;
+use case_systems::bays;
+use case_systems::read_constraints;
+use case_systems::read_system;
 use case_text::first_floats;
 use case_text::first_numbers;
 use case_text::first_small_numbers;
-use system_text::bays;
-use system_text::read_constraints;
-use system_text::read_system;
 
 // How long the lent layout is to be; where the case could not be read, more than any table holds.
 fn layout_length(line: &[u8], system: bool, constraints: bool, right: usize) -> usize {

@@ -1,11 +1,11 @@
 // Answer lines: a refusal with what became of the lent tables, else the value.
 use crate::tables::all_numbers;
-use answer_lines::put_text;
-use answer_lines::put_value;
-use answer_lines::refused_with_tables;
-use answer_lists::put_coded;
-use answer_lists::put_numbers;
-use answer_lists::put_small_numbers;
+use case_answer_lines::put_text;
+use case_answer_lines::put_value;
+use case_answer_lines::refused_with_tables;
+use case_answer_lists::put_coded;
+use case_answer_lists::put_numbers;
+use case_answer_lists::put_small_numbers;
 use units::Check;
 use units::CountAnswer;
 

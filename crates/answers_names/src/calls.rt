@@ -13,9 +13,9 @@ use crate::fields::product;
 use crate::fields::three_read;
 use crate::tables::all_sevens;
 use crate::tables::all_small_numbers;
-use answer_lines::put_value;
-use answer_lines::unreadable;
-use answer_lists::put_coded;
+use case_answer_lines::put_value;
+use case_answer_lines::unreadable;
+use case_answer_lists::put_coded;
 use case_fields::bytes_field;
 use case_fields::number_field;
 use case_fields::number_or;
@@ -25,7 +25,7 @@ use case_lists::Count;
 use case_text::first_bytes;
 use case_text::first_numbers;
 use case_text::first_small_numbers;
-use tile_names::NumberAnswer;
+use name_tiles::NumberAnswer;
 
 pub(crate) fn self_and_inverse(line: &[u8], out: &mut [u8]) -> usize {
     let mut name = [0u8; 1024];
@@ -35,8 +35,8 @@ pub(crate) fn self_and_inverse(line: &[u8], out: &mut [u8]) -> usize {
     let given = first_bytes(&name, n);
     answers::base(
         out,
-        sdc_common::self_and_inverse(given),
-        sdc_common::is_from(given),
+        name_stars::self_and_inverse(given),
+        name_stars::is_from(given),
     )
 }
 
@@ -64,7 +64,7 @@ fn register_into(
     if bases.len() < b {
         return unreadable(out);
     }
-    let answer = registering::register(
+    let answer = name_registering::register(
         sizes.rows,
         sizes.cols,
         sizes.strands,
@@ -197,11 +197,11 @@ fn tile_name_into<'a>(
     tile: u32,
     out: &mut [u8],
 ) -> usize {
-    let refusal = tile_names::tile_name_refusal(strands, text, offsets, present, numerals, tile);
+    let refusal = name_tiles::tile_name_refusal(strands, text, offsets, present, numerals, tile);
     match refusal {
         NumberAnswer::Refused(number) => put_value(out, 0, b"refused ", number as usize),
         NumberAnswer::Shown => {
-            let name = tile_names::tile_name(strands, text, offsets, present, numerals, tile);
+            let name = name_tiles::tile_name(strands, text, offsets, present, numerals, tile);
             put_coded(out, 0, b"name ", name)
         }
     }
@@ -254,7 +254,7 @@ fn seeds_into(
     if seeds.len() < length {
         return unreadable(out);
     }
-    let answer = named_seeds::seeds_by_name(
+    let answer = name_seeds::seeds_by_name(
         sizes.rows,
         sizes.cols,
         sizes.strands,

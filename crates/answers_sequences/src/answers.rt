@@ -1,9 +1,9 @@
 // Answer lines: a refusal, else the value.
-use answer_lines::put_float;
-use answer_lines::put_floats;
-use answer_lines::put_signed;
-use answer_lines::put_text;
-use answer_lines::refused;
+use case_answer_lines::put_float;
+use case_answer_lines::put_floats;
+use case_answer_lines::put_signed;
+use case_answer_lines::put_text;
+use case_answer_lines::refused;
 use units::BaseEnergyAnswer;
 use units::EnergyAnswer;
 use units::HundredthsAnswer;

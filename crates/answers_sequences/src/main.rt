@@ -2,7 +2,7 @@
 mod answers;
 mod calls;
 
-use answer_lines::put_text;
+use case_answer_lines::put_text;
 use case_text::call_name;
 use case_text::is_case;
 use case_text::line_end;
@@ -25,7 +25,7 @@ fn answer(line: &[u8], out: &mut [u8]) -> usize {
     if same(call, b"sequence_pair_str_dg_ds") {
         return calls::sequence_pair_str_dg_ds(line, out);
     }
-    answer_lines::unreadable(out)
+    case_answer_lines::unreadable(out)
 }
 
 // Writes the answer to one line, if it is a case.

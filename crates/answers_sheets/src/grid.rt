@@ -1,8 +1,8 @@
 // The rows and columns of a case, and the offsets that its grid has.
+use case_field_reads::at_most;
+use case_field_reads::is_number;
+use case_field_reads::number_in;
 use case_fields::number_field;
-use field_reads::at_most;
-use field_reads::is_number;
-use field_reads::number_in;
 
 // Whether both could be read, and what they are.
 pub(crate) struct GridRead {

@@ -5,7 +5,7 @@ mod lines;
 mod reading;
 mod writing;
 
-use answer_lines::put_text;
+use case_answer_lines::put_text;
 use case_text::call_name;
 use case_text::is_case;
 use case_text::line_end;
@@ -22,7 +22,7 @@ fn answer(line: &[u8], out: &mut [u8]) -> usize {
     if same(call, b"write_sheet") {
         return writing::answer_writing(line, out);
     }
-    answer_lines::unreadable(out)
+    case_answer_lines::unreadable(out)
 }
 
 // Writes the answer to one line, if it is a case. No answer is longer than the room for it.

@@ -2,13 +2,13 @@
 use crate::grid::offsets_of;
 use crate::grid::read_grid;
 use crate::lines::put_reading;
-use answer_lines::unreadable;
+use case_answer_lines::unreadable;
+use case_field_reads::is_number;
+use case_field_reads::number_in;
 use case_fields::number_or;
 use case_fields::text_field;
 use case_lists::Count;
 use case_text::first_bytes;
-use field_reads::is_number;
-use field_reads::number_in;
 use sheet::read_sheet;
 
 // The numbers of a case, and whether all of them could be read.

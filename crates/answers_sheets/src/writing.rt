@@ -1,15 +1,15 @@
 // The call `write_sheet`: lists are read from their line, a text of sevens is lent, as long as the case says, and what became of it is told.
 use crate::grid::read_grid;
 use crate::lines::put_writing;
-use answer_lines::unreadable;
+use case_answer_lines::unreadable;
+use case_field_reads::ListRead;
+use case_field_reads::is_number;
+use case_field_reads::number_in;
+use case_field_reads::numbers_field;
+use case_field_reads::small_numbers_field;
 use case_fields::number_or;
 use case_text::first_numbers;
 use case_text::first_small_numbers;
-use field_reads::ListRead;
-use field_reads::is_number;
-use field_reads::number_in;
-use field_reads::numbers_field;
-use field_reads::small_numbers_field;
 use sheet::write_sheet;
 
 // The numbers of a case, and whether all of them could be read.

@@ -1,6 +1,6 @@
 -- Bonds can be read from a system that passed its tests. Assumes nothing.
-use Rattle.sdc2d.specs.System.{System}
-use Rattle.sdc2d.proofs.Fine.{Fine}
+use Rattle.bay_system.specs.System.{System}
+use Rattle.bay_system.proofs.Fine.{Fine}
 use Rattle.answers_systems.specs.Asked.{Bonded}
 
 pub bonded : (s : System) → Fine s → Bonded (s .sizes) (s .strandGlues) (s .scaffold) (s .deltaG) (s .entropy)

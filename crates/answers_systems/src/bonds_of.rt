@@ -1,14 +1,14 @@
 // The call `bonds`: a system that passes its tests, and the bonds of its strands, strand 0 left out.
 ghost use Prim.Native.Nat.{_<_};
 ghost use lib.ListN.{length};
-ghost use Rattle.bonds.specs.Readable.{Readable};
+ghost use Rattle.energy_bonds.specs.Readable.{Readable};
 ghost use Rattle.answers_systems.specs.Asked.{Bonded};
-use answer_lines::put_text;
-use answer_lines::refused;
-use answer_lists::put_next_float;
-use beta_energies::edge_beta_between;
-use sdc2d::Sizes;
-use sdc2d::check_system;
+use bay_system::Sizes;
+use bay_system::check_system;
+use case_answer_lines::put_text;
+use case_answer_lines::refused;
+use case_answer_lists::put_next_float;
+use energy_bays::edge_beta_between;
 use units::Check;
 
 // The place of an item in its list, as far as it matters: 0 for the first.
@@ -95,12 +95,12 @@ fn put_bay_row(
     requires { ⌜ bay < length (now scaffold) ⌝ }
 {
     let strands = z.strands;
-    let glue = glue_readers::scaffold_glue_at(scaffold, bay);
+    let glue = bay_glues::scaffold_glue_at(scaffold, bay);
     let mut next = at;
     let mut strand = 1;
     while strand < strands {
-        let own = glue_readers::strand_glues_of(strand_glues, strand);
-        let x = bonds::bond_with_scaffold(delta_g, entropy, z.glues, z.kelvin, glue, own);
+        let own = bay_glues::strand_glues_of(strand_glues, strand);
+        let x = energy_bonds::bond_with_scaffold(delta_g, entropy, z.glues, z.kelvin, glue, own);
         next = put_next_float(out, next, place(bay, 0, strand), x);
         strand += 1;
     }

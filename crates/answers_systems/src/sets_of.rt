@@ -1,16 +1,16 @@
 // The call `allowed_tiles`: constraints are read, and the library is asked with a table of sevens.
 use crate::tables::all_long_numbers;
-use answer_lines::refused_with_tables;
-use answer_lines::unreadable;
-use answer_lists::put_long_numbers;
+use bay_system::Sizes;
+use case_answer_lines::refused_with_tables;
+use case_answer_lines::unreadable;
+use case_answer_lists::put_long_numbers;
 use case_fields::number_or;
+use case_systems::bays;
+use case_systems::read_constraints;
 use case_text::Number;
 use case_text::first_long_numbers;
 use case_text::first_numbers;
 use case_text::first_small_numbers;
-use sdc2d::Sizes;
-use system_text::bays;
-use system_text::read_constraints;
 use units::Check;
 
 // The sets, or a refusal with what became of the lent table.
@@ -40,7 +40,7 @@ fn sets_into(
     if sets.len() < length {
         return unreadable(out);
     }
-    let answer = legal::allowed_tiles(
+    let answer = bay_legal::allowed_tiles(
         z,
         strand_glues,
         scaffold,

@@ -1,11 +1,11 @@
 // A system is read from its line, and a call is asked of it.
 use crate::bonds_of::answer_bonds;
 use crate::sets_of::answer_sets;
-use answer_lines::unreadable;
+use bay_system::Sizes;
+use case_answer_lines::unreadable;
+use case_systems::read_system;
 use case_text::first_floats;
 use case_text::first_small_numbers;
-use sdc2d::Sizes;
-use system_text::read_system;
 
 // The bonds, or the sets, are asked, if the whole system could be read.
 fn ask(

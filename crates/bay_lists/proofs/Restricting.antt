@@ -7,7 +7,7 @@ use native.Mathlib.Nat.{not-suc-le-zero}
 use lib.Dec.{eqb}
 use lib.ListN.{length, getD}
 use borrow.Author.Tests.{eqb-true}
-use Rattle.entries.specs.Entries.{offsetsFit}
+use Rattle.text_entries.specs.Entries.{offsetsFit}
 use Rattle.sets.specs.Set.{has, word}
 use Rattle.sets.proofs.Words.{word-same, word-has, has-word}
 use Rattle.bay_lists.specs.Lists.{names, listAllows, offsetsShaped, constraints}

@@ -4,7 +4,7 @@ use mathlib.Core.Bool.{Bool, true, false, cond, not, _&&_, _||_}
 use mathlib.Core.List.{List, [], _∷_}
 use lib.Dec.{eqb}
 use lib.ListN.{length, getD}
-use Rattle.entries.specs.Entries.{part, offsetsFit}
+use Rattle.text_entries.specs.Entries.{part, offsetsFit}
 
 -- constraints are absent, or a list for each bay
 pub record Constraints : Type 0 where

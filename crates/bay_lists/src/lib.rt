@@ -19,7 +19,7 @@ pub fn offsets_shaped(bays: usize, constrained: bool, offsets: &[usize], tiles: 
     if offsets[0] != 0 {
         return false;
     }
-    if !entries::offsets_fit(offsets, tiles.len()) {
+    if !text_entries::offsets_fit(offsets, tiles.len()) {
         return false;
     }
     offsets[bays] == tiles.len()

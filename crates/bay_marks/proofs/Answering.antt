@@ -10,7 +10,7 @@ use Rattle.units.specs.declared.Check.{Check}
 use Rattle.units.specs.declared.Check.the-variants.{Passed, Refused}
 use Rattle.units.specs.Refusals.{Verdict, _▷_, check, ifPasses}
 use Rattle.units.proofs.Verdicts.{passed, passed-first, refused-first, refused-keeps, no-fault}
-use Rattle.entries.proofs.Same.{both}
+use Rattle.text_entries.proofs.Same.{both}
 use Rattle.bay_marks.specs.Marks.{placeVerdict}
 
 -- ---- a call that fills a slice where its tests pass

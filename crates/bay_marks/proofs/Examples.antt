@@ -5,9 +5,9 @@ use mathlib.Core.List.{[], _∷_}
 use lib.Ieee.{round, ne}
 use Rattle.units.specs.Decimals.{decimal, plus, minus}
 use Rattle.bay_lists.specs.Lists.{Constraints, constraints, names}
-use Rattle.list_readers.specs.Reading.{onlyZeros}
-use Rattle.legal_at.specs.Legal.{seedAt}
-use Rattle.sdc2d.specs.System.{System, system}
+use Rattle.bay_list_readers.specs.Reading.{onlyZeros}
+use Rattle.bay_legal_at.specs.Legal.{seedAt}
+use Rattle.bay_system.specs.System.{System, system}
 use Rattle.ledger_rows.specs.Blocks.{tab}
 use Rattle.units.specs.Refusals.{refuses}
 use Rattle.bay_marks.specs.Marks.{marksOf, codesOf, placeVerdict}

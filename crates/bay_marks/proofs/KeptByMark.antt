@@ -7,14 +7,14 @@ use native.Mathlib.Omega.{arith}
 use lib.Dec.{eqb}
 use lib.ListN.{getD}
 use borrow.Author.Tests.{eqb-true, eq-eqb}
-use Rattle.entries.proofs.Same.{both}
+use Rattle.text_entries.proofs.Same.{both}
 use Rattle.bay_lists.specs.Lists.{Constraints, listOf, names}
-use Rattle.list_readers.specs.Reading.{onlyZeros}
-use Rattle.sdc2d.specs.System.{System}
-use Rattle.legal_at.specs.declared.seeds.Seed.{Seed}
-use Rattle.legal_at.specs.declared.seeds.Seed.the-variants as seed
-use Rattle.legal_at.specs.Legal.{seedAt}
-use Rattle.legal.specs.Sets.{bays}
+use Rattle.bay_list_readers.specs.Reading.{onlyZeros}
+use Rattle.bay_system.specs.System.{System}
+use Rattle.bay_legal_at.specs.declared.seeds.Seed.{Seed}
+use Rattle.bay_legal_at.specs.declared.seeds.Seed.the-variants as seed
+use Rattle.bay_legal_at.specs.Legal.{seedAt}
+use Rattle.bay_legal.specs.Sets.{bays}
 use Rattle.ledger_rows.proofs.Lists.{tab-at}
 use Rattle.bay_reasons.specs.declared.bays.BayReason.the-variants.{KeptEmpty, Restricted}
 use Rattle.bay_reasons.specs.Reasons.{listReason, reasonBy, reasonOf}

@@ -6,13 +6,13 @@ use native.Mathlib.Omega.{arith}
 use lib.Dec.{eqb}
 use lib.ListN.{getD}
 use borrow.Author.Tests.{lt-ltb}
-use Rattle.glue_readers.specs.Tables.{scaffoldGlue}
+use Rattle.bay_glues.specs.Tables.{scaffoldGlue}
 use Rattle.bay_lists.specs.Lists.{Constraints, listOf, listAllows}
-use Rattle.binding_strands.specs.Binding.{mayLie}
-use Rattle.sdc2d.specs.System.{System}
-use Rattle.legal_at.specs.declared.seeds.Seed.{Seed}
-use Rattle.legal_at.specs.declared.seeds.Seed.the-variants as seed
-use Rattle.legal_at.specs.Legal.{seedAt, isLegal}
+use Rattle.bay_binding.specs.Binding.{mayLie}
+use Rattle.bay_system.specs.System.{System}
+use Rattle.bay_legal_at.specs.declared.seeds.Seed.{Seed}
+use Rattle.bay_legal_at.specs.declared.seeds.Seed.the-variants as seed
+use Rattle.bay_legal_at.specs.Legal.{seedAt, isLegal}
 use Rattle.ledger_rows.proofs.Lists.{tab-at}
 use Rattle.bay_reasons.specs.declared.rules.StrandRule.{StrandRule}
 use Rattle.bay_reasons.specs.declared.rules.StrandRule.the-variants.{Legal, OtherSeed, NoBond, NotNamed, Unknown}

@@ -6,13 +6,13 @@ use mathlib.Core.List.{List, []}
 use lib.Dec.{eqb, ltb}
 use lib.ListN.{length}
 use Rattle.units.specs.Refusals.{Verdict, refuseIf, _▷_, ifPasses}
-use Rattle.sdc2d.specs.declared.sizes.Sizes.{Sizes}
-use Rattle.sdc2d.specs.System.{System, systemVerdict}
+use Rattle.bay_system.specs.declared.sizes.Sizes.{Sizes}
+use Rattle.bay_system.specs.System.{System, systemVerdict}
 use Rattle.bay_lists.specs.Lists.{Constraints, listOf, names}
-use Rattle.legal_at.specs.declared.seeds.Seed.the-variants.{Unseeded}
-use Rattle.legal_at.specs.Legal.{seedAt}
-use Rattle.legal_at.specs.OnGrid.{OnGrid}
-use Rattle.legal.specs.Sets.{bays, shapeVerdict}
+use Rattle.bay_legal_at.specs.declared.seeds.Seed.the-variants.{Unseeded}
+use Rattle.bay_legal_at.specs.Legal.{seedAt}
+use Rattle.bay_legal_at.specs.OnGrid.{OnGrid}
+use Rattle.bay_legal.specs.Sets.{bays, shapeVerdict}
 use Rattle.ledger_rows.specs.Blocks.{tab}
 use Rattle.bay_reasons.specs.declared.bays.BayReason.{BayReason}
 use Rattle.bay_reasons.specs.declared.bays.BayReason.the-variants.{Seeded, KeptEmpty, Restricted, Free}

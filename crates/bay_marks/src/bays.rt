@@ -3,17 +3,17 @@ ghost use mathlib.Core.Path.{_≡_};
 ghost use mathlib.Core.Bool.{true};
 ghost use lib.ListN.{length};
 ghost use Rattle.units.specs.Refusals.{check};
-ghost use Rattle.sdc2d.specs.System.{system};
+ghost use Rattle.bay_system.specs.System.{system};
 ghost use Rattle.bay_lists.specs.Lists.{constraints, offsetsShaped};
-ghost use Rattle.legal_at.specs.OnGrid.{OnGrid};
+ghost use Rattle.bay_legal_at.specs.OnGrid.{OnGrid};
 ghost use Rattle.ledger_rows.specs.Blocks.{tab};
 ghost use Rattle.bay_reasons.specs.Reasons.{reasonAt};
 ghost use Rattle.bay_marks.specs.Marks.{markOf, marksVerdict, marksAfter, EachOnGrid};
+use bay_legal::check_shape;
 use bay_reasons::BayReason;
 use bay_reasons::bay_reason;
-use legal::check_shape;
-use sdc2d::Sizes;
-use sdc2d::check_system;
+use bay_system::Sizes;
+use bay_system::check_system;
 use units::Check;
 
 // The mark of a reason.

@@ -5,9 +5,9 @@ use mathlib.Core.List.{[], _∷_, map}
 use lib.Ieee.{round, ne}
 use Rattle.units.specs.Decimals.{decimal, plus, minus}
 use Rattle.bay_lists.specs.Lists.{Constraints, constraints, names}
-use Rattle.list_readers.specs.Reading.{onlyZeros}
-use Rattle.legal_at.specs.Legal.{seedAt}
-use Rattle.sdc2d.specs.System.{System, system}
+use Rattle.bay_list_readers.specs.Reading.{onlyZeros}
+use Rattle.bay_legal_at.specs.Legal.{seedAt}
+use Rattle.bay_system.specs.System.{System, system}
 use Rattle.bay_reasons.specs.declared.bays.BayReason.the-variants.{Seeded, KeptEmpty, Restricted, Free}
 use Rattle.bay_reasons.specs.declared.rules.StrandRule.the-variants.{Legal, OtherSeed, NoBond, NotNamed, Unknown}
 use Rattle.bay_reasons.specs.Reasons.{reasonOf, ruleOf}

@@ -3,13 +3,13 @@ use Prim.Native.Nat.{ℕ}
 use mathlib.Core.Path.{_≡_, refl}
 use mathlib.Core.Bool.{Bool, true, false, cond, _&&_}
 use lib.Dec.{eqb, ltb}
-use Rattle.glue_readers.specs.Tables.{scaffoldGlue}
+use Rattle.bay_glues.specs.Tables.{scaffoldGlue}
 use Rattle.bay_lists.specs.Lists.{Constraints, listOf, listAllows}
-use Rattle.binding_strands.specs.Binding.{mayLie}
-use Rattle.sdc2d.specs.System.{System}
-use Rattle.legal_at.specs.declared.seeds.Seed.{Seed}
-use Rattle.legal_at.specs.declared.seeds.Seed.the-variants as seed
-use Rattle.legal_at.specs.Legal.{seedAt, permits, isLegal}
+use Rattle.bay_binding.specs.Binding.{mayLie}
+use Rattle.bay_system.specs.System.{System}
+use Rattle.bay_legal_at.specs.declared.seeds.Seed.{Seed}
+use Rattle.bay_legal_at.specs.declared.seeds.Seed.the-variants as seed
+use Rattle.bay_legal_at.specs.Legal.{seedAt, permits, isLegal}
 use Rattle.bay_reasons.specs.declared.rules.StrandRule.the-variants.{Legal, Unknown}
 use Rattle.bay_reasons.specs.Reasons.{ruleBy, ruleOf}
 use Rattle.bay_reasons.proofs.Chains.{chain}

@@ -6,13 +6,13 @@ use mathlib.Core.List.{List, [], _∷_}
 use native.Mathlib.Omega.{arith}
 use lib.Dec.{eqb, ltb}
 use borrow.Author.Tests.{ltb-false, eq-eqb}
-use Rattle.glue_readers.specs.Tables.{scaffoldGlue}
+use Rattle.bay_glues.specs.Tables.{scaffoldGlue}
 use Rattle.bay_lists.specs.Lists.{Constraints, listOf, listAllows, names}
-use Rattle.binding_strands.specs.Binding.{binds}
-use Rattle.sdc2d.specs.System.{System}
-use Rattle.legal_at.specs.declared.seeds.Seed.{Seed}
-use Rattle.legal_at.specs.declared.seeds.Seed.the-variants.{Unseeded, Seeded}
-use Rattle.legal_at.specs.Legal.{seedAt}
+use Rattle.bay_binding.specs.Binding.{binds}
+use Rattle.bay_system.specs.System.{System}
+use Rattle.bay_legal_at.specs.declared.seeds.Seed.{Seed}
+use Rattle.bay_legal_at.specs.declared.seeds.Seed.the-variants.{Unseeded, Seeded}
+use Rattle.bay_legal_at.specs.Legal.{seedAt}
 use Rattle.bay_reasons.specs.declared.rules.StrandRule.{StrandRule}
 use Rattle.bay_reasons.specs.declared.rules.StrandRule.the-variants.{OtherSeed, NoBond, NotNamed, Unknown}
 use Rattle.bay_reasons.specs.Reasons.{ruleBy, ruleOf}

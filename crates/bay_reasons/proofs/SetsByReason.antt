@@ -10,15 +10,15 @@ use Rattle.units.specs.Refusals.{passes}
 use Rattle.sets.proofs.Words.{word-same}
 use Rattle.sets.proofs.Operations.{word-only}
 use Rattle.bay_lists.specs.Lists.{Constraints, constraints, names, listAllows, listOf}
-use Rattle.list_readers.specs.Reading.{onlyZeros}
-use Rattle.sdc2d.specs.System.{System, systemVerdict}
-use Rattle.sdc2d.proofs.Fine.{fine}
-use Rattle.legal_at.specs.declared.seeds.Seed.{Seed}
-use Rattle.legal_at.specs.declared.seeds.Seed.the-variants as seed
-use Rattle.legal_at.specs.Legal.{seedAt, permits, isLegal, setAt}
-use Rattle.legal_at.specs.OnGrid.{Below}
-use Rattle.legal_at.proofs.SeedBelow.{seed-below}
-use Rattle.legal_at.proofs.ChemistsQuestion.{no-restriction, seed-alone, seed-left-out}
+use Rattle.bay_list_readers.specs.Reading.{onlyZeros}
+use Rattle.bay_system.specs.System.{System, systemVerdict}
+use Rattle.bay_system.proofs.Fine.{fine}
+use Rattle.bay_legal_at.specs.declared.seeds.Seed.{Seed}
+use Rattle.bay_legal_at.specs.declared.seeds.Seed.the-variants as seed
+use Rattle.bay_legal_at.specs.Legal.{seedAt, permits, isLegal, setAt}
+use Rattle.bay_legal_at.specs.OnGrid.{Below}
+use Rattle.bay_legal_at.proofs.SeedBelow.{seed-below}
+use Rattle.bay_legal_at.proofs.ChemistsQuestion.{no-restriction, seed-alone, seed-left-out}
 use Rattle.bay_reasons.specs.declared.bays.BayReason.the-variants.{Seeded, KeptEmpty, Restricted, Free}
 use Rattle.bay_reasons.specs.Reasons.{listReason, reasonBy, reasonOf}
 

@@ -4,15 +4,15 @@ use mathlib.Core.Bool.{Bool, cond}
 use mathlib.Core.List.{List, [], _∷_}
 use lib.Dec.{eqb, ltb}
 use lib.Ieee.{Float}
-use Rattle.glue_readers.specs.Tables.{scaffoldGlue}
+use Rattle.bay_glues.specs.Tables.{scaffoldGlue}
 use Rattle.bay_lists.specs.Lists.{Constraints, listOf, listAllows}
-use Rattle.binding_strands.specs.Binding.{mayLie}
-use Rattle.list_readers.specs.Reading.{onlyZeros}
-use Rattle.sdc2d.specs.declared.sizes.Sizes.{Sizes}
-use Rattle.sdc2d.specs.System.{System}
-use Rattle.legal_at.specs.declared.seeds.Seed.{Seed}
-use Rattle.legal_at.specs.declared.seeds.Seed.the-variants as seed
-use Rattle.legal_at.specs.Legal.{seedAt}
+use Rattle.bay_binding.specs.Binding.{mayLie}
+use Rattle.bay_list_readers.specs.Reading.{onlyZeros}
+use Rattle.bay_system.specs.declared.sizes.Sizes.{Sizes}
+use Rattle.bay_system.specs.System.{System}
+use Rattle.bay_legal_at.specs.declared.seeds.Seed.{Seed}
+use Rattle.bay_legal_at.specs.declared.seeds.Seed.the-variants as seed
+use Rattle.bay_legal_at.specs.Legal.{seedAt}
 use Rattle.bay_reasons.specs.declared.bays.BayReason.{BayReason}
 use Rattle.bay_reasons.specs.declared.bays.BayReason.the-variants.{Seeded, KeptEmpty, Restricted, Free}
 use Rattle.bay_reasons.specs.declared.rules.StrandRule.{StrandRule}

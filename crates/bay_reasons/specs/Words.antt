@@ -3,12 +3,12 @@ use Prim.Native.Nat.{ℕ}
 use mathlib.Core.Path.{_≡_}
 use mathlib.Core.Bool.{false}
 use mathlib.Core.List.{[]}
-use Rattle.glue_readers.specs.Tables.{scaffoldGlue}
+use Rattle.bay_glues.specs.Tables.{scaffoldGlue}
 use Rattle.bay_lists.specs.Lists.{Constraints, listOf, names}
-use Rattle.binding_strands.specs.Binding.{binds}
-use Rattle.sdc2d.specs.System.{System}
-use Rattle.legal_at.specs.declared.seeds.Seed.the-variants.{Unseeded, Seeded}
-use Rattle.legal_at.specs.Legal.{seedAt}
+use Rattle.bay_binding.specs.Binding.{binds}
+use Rattle.bay_system.specs.System.{System}
+use Rattle.bay_legal_at.specs.declared.seeds.Seed.the-variants.{Unseeded, Seeded}
+use Rattle.bay_legal_at.specs.Legal.{seedAt}
 
 -- another strand is seeded there
 pub record OtherLies (s : System) (bay strand : ℕ) : Type 0 where

@@ -2,12 +2,12 @@
 ghost use mathlib.Core.Path.{_≡_};
 ghost use mathlib.Core.Bool.{true};
 ghost use lib.ListN.{length};
-ghost use Rattle.legal_at.specs.OnGrid.{OnGrid};
+ghost use Rattle.bay_legal_at.specs.OnGrid.{OnGrid};
 ghost use Rattle.bay_lists.specs.Lists.{constraints, offsetsShaped};
 ghost use Rattle.bay_reasons.specs.Reasons.{listReason, reasonAt};
-use legal_at::Seed;
-use legal_at::seed_at;
-use sdc2d::Sizes;
+use bay_legal_at::Seed;
+use bay_legal_at::seed_at;
+use bay_system::Sizes;
 
 // A seed lies there; the list names nothing but 0; the list names other strands; or nothing but the bay's glue restricts it.
 pub enum BayReason {
@@ -24,7 +24,7 @@ fn list_reason(list: &[u32]) -> BayReason
     if list.len() == 0 {
         return BayReason::Free;
     }
-    if list_readers::only_zeros(list) {
+    if bay_list_readers::only_zeros(list) {
         return BayReason::KeptEmpty;
     }
     BayReason::Restricted
@@ -47,7 +47,13 @@ pub fn bay_reason(
     match seed_at(z.cols, seeds, bay) {
         Seed::Seeded(strand) => BayReason::Seeded(strand),
         Seed::Unseeded => {
-            list_reason(list_readers::bay_list(scaffold.len(), constrained, offsets, tiles, bay))
+            list_reason(bay_list_readers::bay_list(
+                scaffold.len(),
+                constrained,
+                offsets,
+                tiles,
+                bay,
+            ))
         }
     }
 }

@@ -3,15 +3,15 @@ ghost use mathlib.Core.Path.{_≡_};
 ghost use mathlib.Core.Bool.{true};
 ghost use Prim.Native.Nat.{_<_};
 ghost use lib.ListN.{length};
-ghost use Rattle.bonds.specs.Readable.{Readable};
-ghost use Rattle.legal_at.specs.OnGrid.{OnGrid};
+ghost use Rattle.energy_bonds.specs.Readable.{Readable};
+ghost use Rattle.bay_legal_at.specs.OnGrid.{OnGrid};
 ghost use Rattle.bay_lists.specs.Lists.{constraints, offsetsShaped};
-ghost use Rattle.binding_strands.specs.Binding.{mayLie};
+ghost use Rattle.bay_binding.specs.Binding.{mayLie};
 ghost use Rattle.bay_reasons.specs.Reasons.{listRule, seedRule, glueRule, ruleAt};
-use binding_strands::binds;
-use legal_at::Seed;
-use legal_at::seed_at;
-use sdc2d::Sizes;
+use bay_binding::binds;
+use bay_legal_at::Seed;
+use bay_legal_at::seed_at;
+use bay_system::Sizes;
 
 // None; the bay's seed, which is another strand; no bond with the bay's glue; the bay's list, which leaves the strand out; no strand has
 // this number.
@@ -86,12 +86,12 @@ pub fn strand_rule(
     if z.strands <= strand as usize {
         return StrandRule::Unknown;
     }
-    let list = list_readers::bay_list(scaffold.len(), constrained, offsets, tiles, bay);
-    let allowed = list_readers::list_allows(list, strand);
+    let list = bay_list_readers::bay_list(scaffold.len(), constrained, offsets, tiles, bay);
+    let allowed = bay_list_readers::list_allows(list, strand);
     match seed_at(z.cols, seeds, bay) {
         Seed::Seeded(seed) => seed_rule(seed, strand, allowed),
         Seed::Unseeded => {
-            let glue = glue_readers::scaffold_glue_at(scaffold, bay);
+            let glue = bay_glues::scaffold_glue_at(scaffold, bay);
             glue_rule(z, strand_glues, delta_g, entropy, glue, strand, allowed)
         }
     }

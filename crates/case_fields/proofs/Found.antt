@@ -3,9 +3,9 @@ use Prim.Native.Nat.{ℕ, _^_}
 use mathlib.Core.Bool.{Bool, true, false}
 use mathlib.Core.List.{List}
 use mathlib.Core.Path.{_≡_}
-use Rattle.case_numbers.specs.Digits.{numberOf}
+use Rattle.text_digits.specs.Digits.{numberOf}
 use Rattle.case_text.specs.Fields.{words, anyField, firstField}
-use Rattle.case_numbers.specs.declared.kinds.Number.{Number}
+use Rattle.text_digits.specs.declared.kinds.Number.{Number}
 use Rattle.case_lists.specs.Lists.{values, counted, front}
 use Rattle.case_lists.specs.declared.Count.{Count}
 use Rattle.case_fields.specs.Values.{fieldCount, fieldFront, numberOr}

@@ -2,9 +2,9 @@
 use Prim.Native.Nat.{ℕ, _^_}
 use mathlib.Core.Bool.{Bool, cond}
 use mathlib.Core.List.{List}
-use Rattle.case_numbers.specs.Digits.{numberOf}
+use Rattle.text_digits.specs.Digits.{numberOf}
 use Rattle.case_text.specs.Fields.{words, anyField, firstField}
-use Rattle.case_numbers.specs.declared.kinds.Number.{Number}
+use Rattle.text_digits.specs.declared.kinds.Number.{Number}
 use Rattle.case_lists.specs.Lists.{values, counted, front}
 use Rattle.case_lists.specs.declared.Count.{Count}
 

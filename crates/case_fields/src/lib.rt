@@ -2,7 +2,7 @@
 ghost use mathlib.Core.Path.{_≡_};
 ghost use Prim.Native.Nat.{_^_};
 ghost use lib.ListN.{length};
-ghost use Rattle.case_numbers.specs.Digits.{worth, isNumber, numberOf, isFloat, floatIn, floatOf};
+ghost use Rattle.text_digits.specs.Digits.{worth, isNumber, numberOf, isFloat, floatIn, floatOf};
 ghost use Rattle.case_text.specs.Fields.{words, firstField};
 ghost use Rattle.case_lists.specs.Lists.{items};
 ghost use Rattle.case_lists.specs.Text.{signs, isSign, byteOf};

@@ -3,7 +3,7 @@ use Prim.Native.Nat.{_^_}
 use mathlib.Core.List.{[], _∷_}
 use mathlib.Core.Path.{_≡_, refl}
 use Rattle.case_text.specs.Places.{longer, parts}
-use Rattle.case_numbers.specs.Digits.{digit, allDigits, worth, isNumber}
+use Rattle.text_digits.specs.Digits.{digit, allDigits, worth, isNumber}
 use Rattle.case_text.specs.Plain.{isPlain}
 use Rattle.case_lists.specs.Lists.{items, all, values, counted, front}
 use Rattle.case_lists.specs.Text.{signs, isSign, byteOf}

@@ -13,7 +13,7 @@ use Rattle.case_text.specs.Fields.{rest}
 use Rattle.case_lists.specs.Lists.{items, all, values, counted, front}
 use Rattle.case_lists.specs.declared.Count.{Count}
 use Rattle.case_text.proofs.Cuts.{part-at, none-after, more-after}
-use Rattle.case_numbers.proofs.Worth.{and-false}
+use Rattle.text_digits.proofs.Worth.{and-false}
 
 -- n of the items ws have been read, and the ones that are left are given
 pub record Filling {A : Type 0} (ok : List ℕ → Bool) (value : List ℕ → A) (ws : List (List ℕ)) (old : List A) (left : List (List ℕ)) (out : List A) (n : ℕ) : Type 0 where

@@ -8,11 +8,11 @@ use borrow.Author.Tests.{eq-eqb, ne-eqb, leb-true}
 use lib.Dec.{eqb, leb, lit<, lit≤}
 use lib.ListN.{length, getD, take, drop, length-drop, drop-of-length-le}
 use lib.Seq.{drop-cons, drop-drop, take-length, drop-length}
-use Rattle.case_numbers.specs.Digits.{allDigits, worth, wholeOf}
+use Rattle.text_digits.specs.Digits.{allDigits, worth, wholeOf}
 use Rattle.case_text.specs.Plain.{isPlain}
 use Rattle.case_lists.specs.Text.{signs, isSign, byteOf, plainOf, hiddenOf, signOf, SignEnds}
-use Rattle.case_numbers.specs.declared.kinds.Number.{Number}
-use Rattle.case_numbers.proofs.Worth.{and-left, and-right, worth-bound, read-of, read-none, whole-16}
+use Rattle.text_digits.specs.declared.kinds.Number.{Number}
+use Rattle.text_digits.proofs.Worth.{and-left, and-right, worth-bound, read-of, read-none, whole-16}
 
 -- a sign of k bytes at the front of the text from a place on
 ends : (text : List ℕ) (at k r : ℕ) → r ≡ at + k → 0 < k → r ≤ length text

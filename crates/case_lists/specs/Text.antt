@@ -5,9 +5,9 @@ use mathlib.Core.List.{List, [], _∷_}
 use mathlib.Core.Path.{_≡_}
 use lib.Dec.{eqb}
 use lib.ListN.{length, take, drop}
-use Rattle.case_numbers.specs.Digits.{allDigits, worth}
+use Rattle.text_digits.specs.Digits.{allDigits, worth}
 use Rattle.case_text.specs.Plain.{isPlain}
-use Rattle.case_numbers.specs.declared.kinds.Number.{Number}
+use Rattle.text_digits.specs.declared.kinds.Number.{Number}
 
 -- the signs that a text is made of: `%` with the two bytes after it, as far as there are two, and any other byte by itself
 unfoldable pub signs : List ℕ → List (List ℕ)

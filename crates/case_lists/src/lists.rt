@@ -4,7 +4,7 @@
 ghost use mathlib.Core.Path.{_≡_};
 ghost use Prim.Native.Nat.{_^_};
 ghost use lib.ListN.{length};
-ghost use Rattle.case_numbers.specs.Digits.{worth, isNumber, numberOf, isFloat, floatIn};
+ghost use Rattle.text_digits.specs.Digits.{worth, isNumber, numberOf, isFloat, floatIn};
 ghost use Rattle.case_lists.specs.Lists.{items, counted, values, front};
 use crate::Count;
 use case_text::FloatValue;

@@ -1,5 +1,5 @@
 // Registering 128 names of one byte, no two alike and none a star: 25 strands and three bays.
-use registering::register;
+use name_registering::register;
 use units::CountAnswer;
 
 fn names_into(text: &mut [u8; 128]) {

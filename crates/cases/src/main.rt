@@ -4,8 +4,8 @@ ghost use Prim.Native.Nat.{_≤_};
 mod bases;
 mod grids;
 
-use answer_lines::put_text;
-use answer_lines::put_value;
+use case_answer_lines::put_text;
+use case_answer_lines::put_value;
 use libc::STDOUT_FILENO;
 
 // 1 for a case that came out otherwise.

@@ -16,10 +16,10 @@ use Rattle.sets.specs.Set.{has, members}
 use Rattle.ledger_rows.specs.Scan.{Scan}
 use Rattle.ledger_rows.specs.Blocks.{tab, flat, size, leavers, newest, rowFrom, addsAt, blockOf}
 use Rattle.ledger_rows.proofs.Numbering.{leavers-early, leavers-late}
-use Rattle.beta_energies.specs.ScanSum.{withBond}
-use Rattle.row_choice.specs.Row.{strandsOf, bondAt, ownAdds}
+use Rattle.energy_bays.specs.ScanSum.{withBond}
+use Rattle.ledger_row_choice.specs.Row.{strandsOf, bondAt, ownAdds}
 use Rattle.ledger_fill.specs.Handed.{addedOf, scanOf}
-use Rattle.bay_block.specs.Block.{ownOf, besideAt, bayBlock}
+use Rattle.ledger_block.specs.Block.{ownOf, besideAt, bayBlock}
 use Rattle.ledger_fill.specs.Bays.{leavingOf, bayOf}
 
 -- while none leaves, strand 0 alone is counted

@@ -15,13 +15,13 @@ use Rattle.ledger_rows.proofs.SameStrands.{need-same}
 use Rattle.ledger_rows.proofs.Lists.{flat-none, flat-more}
 use Rattle.ledger_rows.proofs.Rows.{length-energies, length-notes}
 use Rattle.ledger_rows.proofs.Tables.{length-energy-table, length-note-table}
-use Rattle.bay_block.specs.declared.Bay.{Bay}
-use Rattle.row_choice.specs.Row.{strandsOf}
+use Rattle.ledger_block.specs.declared.Bay.{Bay}
+use Rattle.ledger_row_choice.specs.Row.{strandsOf}
 use Rattle.ledger_fill.specs.Handed.{addedOf, setScan, runScan, Fillable}
 use Rattle.ledger_fill.specs.Last.{lastOf}
-use Rattle.bay_block.specs.Block.{over, part, Writable, bayBlock}
+use Rattle.ledger_block.specs.Block.{over, part, Writable, bayBlock}
 use Rattle.ledger_fill.specs.Bays.{leavingOf, bayOf}
-use Rattle.bay_block.proofs.Over.{over-none, length-over, over-over}
+use Rattle.ledger_block.proofs.Over.{over-none, length-over, over-over}
 use Rattle.ledger_fill.proofs.Agrees.{block-is}
 use Rattle.ledger_fill.proofs.Sizes.{need-mono, Coming, Counting, counting-starts, counting-comes, counted, counting-turns, bay-small, bay-is, bay-rows}
 

@@ -16,8 +16,8 @@ use Rattle.sets.proofs.Members.{length-le}
 use Rattle.ledger_rows.specs.Scan.{Scan, Filled}
 use Rattle.ledger_rows.specs.Blocks.{size, need}
 use Rattle.ledger_rows.proofs.Numbering.{size-more, size-leavers, leavers-some}
-use Rattle.bay_block.specs.declared.Bay.{Bay}
-use Rattle.row_choice.specs.Row.{strandsOf}
+use Rattle.ledger_block.specs.declared.Bay.{Bay}
+use Rattle.ledger_row_choice.specs.Row.{strandsOf}
 use Rattle.ledger_fill.specs.Handed.{scanOf, capped}
 use Rattle.ledger_fill.specs.Bays.{leavingOf, bayOf}
 use Rattle.ledger_fill.proofs.Agrees.{leaving-is}

@@ -4,7 +4,7 @@ use mathlib.Core.List.{List}
 use Prim.Native.Nat.{ℕ, _-_, _%_}
 use lib.Dec.{eqb, leb}
 use lib.ListN.{getD}
-use Rattle.bay_block.specs.declared.Bay.{Bay}
+use Rattle.ledger_block.specs.declared.Bay.{Bay}
 
 -- the set that leaves as bay k comes: strand 0 alone while none does
 abbrev pub leavingOf : (window : ℕ) → (sets : List ℕ) → (k : ℕ) → ℕ

@@ -8,8 +8,8 @@ use lib.Ieee.{Float, nan}
 use lib.ListN.{length, getD, take, drop}
 use Rattle.ledger_rows.specs.Scan.{Scan, Filled}
 use Rattle.ledger_rows.specs.Blocks.{need}
-use Rattle.beta_energies.specs.ScanSum.{withBond}
-use Rattle.row_choice.specs.Row.{strandsOf, bondAt}
+use Rattle.energy_bays.specs.ScanSum.{withBond}
+use Rattle.ledger_row_choice.specs.Row.{strandsOf, bondAt}
 
 -- a bay's number: (bay + bond to the previous major line) + bond to the previous bay of this line, absent ones left out
 abbrev pub addedOf : (window : ℕ) → (rows : ℕ → List Float) → (major side : List Float) → (k s u t : ℕ) → Float

@@ -5,13 +5,13 @@ ghost use Prim.Native.Nat.{_-_, _*_, _/_, _≤_, _<_};
 ghost use lib.ListN.{length};
 ghost use Rattle.ledger_rows.specs.Scan.{Filled};
 ghost use Rattle.ledger_rows.specs.Blocks.{need, energyTable, noteTable};
-ghost use Rattle.row_choice.specs.Row.{strandsOf};
+ghost use Rattle.ledger_row_choice.specs.Row.{strandsOf};
 ghost use Rattle.ledger_fill.specs.Handed.{setScan, runScan, Fillable, capped};
-ghost use Rattle.bay_block.specs.Block.{over};
+ghost use Rattle.ledger_block.specs.Block.{over};
 ghost use Rattle.ledger_fill.specs.Bays.{leavingOf, bayOf};
 ghost use Rattle.ledger_fill.specs.Last.{lastOf};
-use bay_block::Bay;
-use bay_block::put_bay;
+use ledger_block::Bay;
+use ledger_block::put_bay;
 
 // The set that leaves the window as bay k comes: strand 0 alone while none does.
 pub fn leaving(window: usize, sets: &[u64], k: usize) -> u64

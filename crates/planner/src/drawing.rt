@@ -3,9 +3,9 @@ use crate::messages::begin;
 use crate::messages::finish;
 use crate::messages::say;
 use crate::standard::NUMERALS;
-use answer_texts::put_text;
-use layout_svg::put_svg;
-use slice_fronts::first_bytes;
+use plan_layout_svg::put_svg;
+use text_fronts::first_bytes;
+use text_put::put_text;
 
 // Draws a layout into the file that the word at a place names; place 0 asks for none.
 pub(crate) fn draw(

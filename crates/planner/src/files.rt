@@ -4,10 +4,10 @@ use crate::messages::finish;
 use crate::messages::finish_stray;
 use crate::messages::put_with;
 use crate::messages::say;
-use answer_texts::put_text;
 use sheet_files::FileRead;
 use sheet_files::put_path;
-use slice_fronts::first_bytes;
+use text_fronts::first_bytes;
+use text_put::put_text;
 
 // Whether a folder can be opened, which a plain file cannot be as one.
 pub(crate) fn is_folder_there(folder: &[u8]) -> bool {
@@ -117,7 +117,7 @@ pub(crate) fn is_sheet(
         say_empty(folder, name);
         return false;
     }
-    let stray = plain_text::first_stray(text);
+    let stray = text_plain::first_stray(text);
     if stray < text.len() {
         say_no_text(folder, name, stray);
         return false;

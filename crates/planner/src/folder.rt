@@ -4,9 +4,9 @@ use crate::files::is_sheet;
 use crate::files::is_whole;
 use crate::tables::plan_sheets;
 use crate::wish::Wish;
-use plain_text::without_mark;
 use sheet_files::read_file;
-use slice_fronts::first_bytes;
+use text_fronts::first_bytes;
+use text_plain::without_mark;
 
 // Plans a folder; the answer is whether it could be planned. Where not, one sentence stands on standard error and nothing on standard output.
 pub(crate) fn plan_folder(folder: &[u8], wish: Wish) -> bool {

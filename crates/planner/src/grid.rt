@@ -3,8 +3,8 @@ use crate::messages::say;
 use crate::standard::NUMERALS;
 use crate::standard::put_kcal;
 use crate::standard::write_front;
-use answer_texts::put_text;
-use layout_text::put_layout;
+use plan_layout_text::put_layout;
+use text_put::put_text;
 
 // The folder and the least energy.
 fn put_head(page: &mut [u8], folder: &[u8], exact: bool, energy: f64) -> usize {

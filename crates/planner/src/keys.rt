@@ -8,13 +8,13 @@ use crate::shapes::is_table;
 use crate::shapes::table_of;
 use crate::strands::plan_strands;
 use crate::wish::Wish;
-use energy_keys::energy_keys;
+use name_energy_keys::energy_keys;
 use sheet_keys::KeyTexts;
 use sheet_keys::check_keys;
 use sheet_keys::put_keys;
-use slice_fronts::first_bytes;
-use slice_fronts::first_floats;
-use slice_fronts::first_numbers;
+use text_fronts::first_bytes;
+use text_fronts::first_floats;
+use text_fronts::first_numbers;
 use units::Check;
 use units::Refusal;
 

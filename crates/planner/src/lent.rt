@@ -1,10 +1,10 @@
 // Calls over a system, each with as much of a longer table lent as the grid or the strands ask for. Where a table is shorter than that, which no
 // tested system has, the call is refused with 1.
+use bay_legal::allowed_tiles;
 use bay_marks::mark_bays;
 use bay_marks::rule_strands;
-use choice_price::mfe_with_choice;
-use legal::allowed_tiles;
-use sdc2d::Sizes;
+use bay_system::Sizes;
+use run_choice_price::mfe_with_choice;
 use sdc2d_thermo::mfe_configuration;
 use units::Check;
 use units::EnergyAnswer;

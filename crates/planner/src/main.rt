@@ -34,8 +34,8 @@ use crate::words::folders;
 use crate::words::folders_at;
 use crate::words::is_folder;
 use crate::words::is_there;
-use answer_texts::put_text;
-use slice_fronts::first_bytes;
+use text_fronts::first_bytes;
+use text_put::put_text;
 
 // Says which folder is planned now.
 fn write_progress(folder: &[u8], number: usize, count: usize) {

@@ -1,8 +1,8 @@
 // Sentences on standard error. Each begins with the folder that it is about and ends its line.
 ghost use Prim.Native.Nat.{_≤_};
-use answer_texts::put_number;
-use answer_texts::put_text;
-use slice_fronts::first_bytes;
+use text_fronts::first_bytes;
+use text_put::put_number;
+use text_put::put_text;
 
 // The front of a sentence about a folder.
 pub(crate) fn begin(line: &mut [u8], folder: &[u8]) -> usize {

@@ -11,9 +11,9 @@ use crate::standard::write_front;
 use crate::summary::write_summary;
 use crate::why::write_why;
 use crate::wish::Wish;
-use sdc2d::Sizes;
-use slice_fronts::first_bytes;
-use slice_fronts::first_long_numbers;
+use bay_system::Sizes;
+use text_fronts::first_bytes;
+use text_fronts::first_long_numbers;
 use units::Check;
 
 // Whether what is asked for has room: a grid of names is written only where one is shown.

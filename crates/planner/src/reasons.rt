@@ -5,9 +5,9 @@ use crate::messages::row_of;
 use crate::standard::put_mark;
 use crate::standard::put_strand;
 use crate::standard::write_front;
-use answer_texts::put_text;
-use bay_names::tile_at;
+use plan_bay_names::tile_at;
 use sets::holds;
+use text_put::put_text;
 
 // Writes a line for each bay.
 pub(crate) fn write_reasons(

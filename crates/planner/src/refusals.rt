@@ -6,13 +6,13 @@ use crate::messages::finish_stray;
 use crate::messages::put_bay;
 use crate::messages::put_field;
 use crate::messages::put_with;
-use answer_texts::put_text;
-use bay_names::front;
-use plain_text::first_stray;
-use plain_text::without_mark;
+use plan_bay_names::front;
 use sheet_names::put_content;
 use sheet_records::place_after;
-use slice_fronts::first_bytes;
+use text_fronts::first_bytes;
+use text_plain::first_stray;
+use text_plain::without_mark;
+use text_put::put_text;
 use units::Check;
 use units::Refusal;
 
@@ -157,7 +157,7 @@ fn is_sequence(keys: &[u8], at: usize) -> bool {
     if n == 0 {
         return true;
     }
-    match single_sequence::check_single(first_bytes(&letters, n), 0) {
+    match dna_single::check_single(first_bytes(&letters, n), 0) {
         Check::Passed => true,
         Check::Refused(_) => false,
     }

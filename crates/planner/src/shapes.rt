@@ -4,9 +4,9 @@ use crate::messages::begin;
 use crate::messages::finish;
 use crate::messages::put_with;
 use crate::messages::say_field;
-use answer_texts::put_text;
 use sheet_records::TableCheck;
 use sheet_records::check_table;
+use text_put::put_text;
 
 // Tests a sheet whose records have so many fields, and of which there are at most so many.
 pub(crate) fn table_of(sheet: &[u8], width: usize, most: usize) -> TableCheck

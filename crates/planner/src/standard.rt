@@ -1,10 +1,10 @@
 // Standard output, and the texts that several reports share.
 use crate::messages::say;
-use answer_texts::put_float;
-use answer_texts::put_text;
-use bay_names::name_of;
-use energy_text::put_energy;
-use slice_fronts::first_bytes;
+use plan_bay_names::name_of;
+use text_energy::put_energy;
+use text_fronts::first_bytes;
+use text_put::put_float;
+use text_put::put_text;
 
 // Two digits for each strand without a name, as document 01's numerals text has them.
 pub(crate) const NUMERALS: [u8; 126] =

@@ -7,9 +7,9 @@ use crate::seeds::plan_seeds;
 use crate::wish::Wish;
 use sheet_strands::put_logs;
 use sheet_strands::put_names;
-use slice_fronts::first_bytes;
-use slice_fronts::first_floats;
-use slice_fronts::first_numbers;
+use text_fronts::first_bytes;
+use text_fronts::first_floats;
+use text_fronts::first_numbers;
 
 // Reads the names into tables that have room for 64.
 fn read_names(

@@ -3,7 +3,7 @@ ghost use Prim.Native.Nat.{_≤_};
 use crate::messages::put_with;
 use crate::standard::put_kcal;
 use crate::standard::write_front;
-use answer_texts::put_text;
+use text_put::put_text;
 
 // How many strands a bay holds, 0 or 1.
 fn strands_in(tile: u32) -> usize

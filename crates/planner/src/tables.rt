@@ -159,8 +159,8 @@ fn plan_grid(
         count,
         &mut text,
         end,
-        slice_fronts::first_small_numbers(&strand_glues, records * 5 + 5),
-        slice_fronts::first_small_numbers(&scaffold, bays),
+        text_fronts::first_small_numbers(&strand_glues, records * 5 + 5),
+        text_fronts::first_small_numbers(&scaffold, bays),
         &bases,
     )
 }

@@ -5,9 +5,9 @@ use crate::messages::begin;
 use crate::messages::finish;
 use crate::messages::put_bay;
 use crate::messages::put_with;
-use answer_texts::put_text;
-use sdc2d::Sizes;
-use slice_fronts::first_bytes;
+use bay_system::Sizes;
+use text_fronts::first_bytes;
+use text_put::put_text;
 use units::Check;
 use units::Refusal;
 
@@ -140,7 +140,7 @@ fn list_of<'a>(offsets: &[usize], tiles: &'a [u32], bay: usize) -> &'a [u32] {
 
 // The numbers of a list, no more than the first eight, then the rule that forbids each, and the seed that the list leaves out.
 fn put_list(line: &mut [u8], at: usize, list: &[u32], rules: &[u8]) -> usize {
-    let shown = slice_fronts::first_small_numbers(list, 8);
+    let shown = text_fronts::first_small_numbers(list, 8);
     let numbers = put_numbers(line, at, shown);
     let more = put_more(line, numbers, list.len());
     let reasons = put_reasons(line, more, shown, rules);

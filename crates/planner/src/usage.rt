@@ -6,7 +6,7 @@ use crate::words::first_fault;
 use crate::words::folders;
 use crate::words::is_there;
 use crate::words::stands_twice;
-use slice_fronts::first_bytes;
+use text_fronts::first_bytes;
 
 // Writes how the planner is called.
 pub(crate) fn write_help() -> bool {

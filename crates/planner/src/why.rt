@@ -10,9 +10,9 @@ use crate::standard::put_kcal;
 use crate::standard::put_strand;
 use crate::standard::write_front;
 use crate::wish::Wish;
-use answer_texts::put_text;
-use sdc2d::Sizes;
-use slice_fronts::first_bytes;
+use bay_system::Sizes;
+use text_fronts::first_bytes;
+use text_put::put_text;
 use units::Check;
 use units::EnergyAnswer;
 

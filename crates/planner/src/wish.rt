@@ -2,8 +2,8 @@
 use crate::messages::after;
 use crate::words::is_there;
 use crate::words::place_of;
-use number_lists::plain_number;
-use slice_fronts::first_bytes;
+use sheet_number_lists::plain_number;
+use text_fronts::first_bytes;
 
 // What is to be shown. `why` says that a bay is asked about, which has a row and a column from 1; `svg` is the place of the word that
 // names the drawing's file, 0 where none is wanted.

@@ -1,7 +1,7 @@
 // The words of the command line: which are options, which belong to one, and which are folders. A word is told by its place among the arguments.
 ghost use Prim.Native.Nat.{_≤_};
 use crate::messages::after;
-use slice_fronts::first_bytes;
+use text_fronts::first_bytes;
 
 // Whether a text has another at its front.
 pub(crate) fn begins(text: &[u8], front: &[u8]) -> bool {

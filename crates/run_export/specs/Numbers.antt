@@ -3,7 +3,7 @@ use Prim.Native.Nat.{ℕ}
 use lib.Ieee.{Float, binary64, ofBits}
 use Rattle.units.specs.declared.EnergyAnswer.{EnergyAnswer}
 use Rattle.units.specs.declared.EnergyAnswer.the-variants.{Energy, Refused}
-use Rattle.sdc2d.specs.declared.sizes.Sizes.{Sizes}
+use Rattle.bay_system.specs.declared.sizes.Sizes.{Sizes}
 use Rattle.run_export.specs.declared.RunNumbers.{RunNumbers}
 
 -- no refusal is 0, and no energy is 0.0

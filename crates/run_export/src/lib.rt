@@ -2,11 +2,11 @@
 ghost use mathlib.Core.Path.{_≡_};
 ghost use lib.ListN.{length};
 ghost use Rattle.units.specs.Refusals.{numberIn};
-ghost use Rattle.sdc2d.specs.System.{system};
+ghost use Rattle.bay_system.specs.System.{system};
 ghost use Rattle.bay_lists.specs.Lists.{constraints};
 ghost use Rattle.sdc2d_thermo.specs.Run.{runVerdict, mfeAnswer, layoutAfter, energiesAfter, notesAfter};
 ghost use Rattle.run_export.specs.Numbers.{numbers, sizes};
-use sdc2d::Sizes;
+use bay_system::Sizes;
 use units::EnergyAnswer;
 
 // An answer in numbers: the refusal's number, 0 where there is none, its first value, and the energy in kcal/mol, 0.0 where there is none.

@@ -7,10 +7,10 @@ use mathlib.Core.List.{List}
 use lib.Dec.{ltb}
 use lib.Ieee.{Float}
 use lib.ListN.{length}
-use Rattle.sdc2d.specs.declared.sizes.Sizes.{Sizes}
-use Rattle.glue_readers.specs.Tables.{scaffoldGlue}
-use Rattle.beta_energies.specs.Energies.{nothing, bayEnergy, edgeEnergy}
-use Rattle.scan_order.specs.Scan.{bayAt}
+use Rattle.bay_system.specs.declared.sizes.Sizes.{Sizes}
+use Rattle.bay_glues.specs.Tables.{scaffoldGlue}
+use Rattle.energy_bays.specs.Energies.{nothing, bayEnergy, edgeEnergy}
+use Rattle.bay_scan_order.specs.Scan.{bayAt}
 use Rattle.ledger_rows.specs.Blocks.{tab}
 
 -- the bond of two numbers below 64

@@ -1,10 +1,10 @@
 // The bonds of all pairs of strands.
 ghost use mathlib.Core.Path.{_≡_};
 ghost use lib.ListN.{length};
-ghost use Rattle.bonds.specs.Readable.{Readable};
+ghost use Rattle.energy_bonds.specs.Readable.{Readable};
 ghost use Rattle.run_tables.specs.Tables.{pairEnergy, bondTable};
-use beta_energies::edge_beta_between;
-use sdc2d::Sizes;
+use bay_system::Sizes;
+use energy_bays::edge_beta_between;
 
 // The bond of two numbers below 64, 0.0 where one is no strand.
 fn pair_energy(

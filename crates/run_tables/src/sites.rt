@@ -2,11 +2,11 @@
 ghost use mathlib.Core.Path.{_≡_};
 ghost use Prim.Native.Nat.{_*_, _≤_, _<_};
 ghost use lib.ListN.{length, take};
-ghost use Rattle.bonds.specs.Readable.{Readable};
+ghost use Rattle.energy_bonds.specs.Readable.{Readable};
 ghost use Rattle.run_tables.specs.Tables.{siteEnergy, siteTable, Stocked};
-use beta_energies::site_beta_energy;
-use scan_order::bay_at;
-use sdc2d::Sizes;
+use bay_scan_order::bay_at;
+use bay_system::Sizes;
+use energy_bays::site_beta_energy;
 
 // The energy of a bay with a number below 64, 0.0 where it is no strand.
 fn site_energy(

@@ -11,16 +11,16 @@ use Rattle.units.specs.Answers.{energyRefusal}
 use Rattle.units.specs.Refusals.{refuseIf, _▷_, Prints}
 use Rattle.units.proofs.Verdicts.{Tabled, tabled-if, tabled-then}
 use Rattle.units.proofs.Answers.{given, an-energy}
-use Rattle.beta_energies.specs.Energies.{noEnergy}
-use Rattle.state_energy.specs.StateG.{inKcal}
-use Rattle.sdc2d.specs.System.{System, systemVerdict}
-use Rattle.sdc2d.proofs.Tabled.{system-tabled}
+use Rattle.energy_bays.specs.Energies.{noEnergy}
+use Rattle.energy_state.specs.StateG.{inKcal}
+use Rattle.bay_system.specs.System.{System, systemVerdict}
+use Rattle.bay_system.proofs.Tabled.{system-tabled}
 use Rattle.bay_lists.specs.Lists.{Constraints, offsetsShaped}
-use Rattle.legal.specs.Sets.{bays, setsOf, shapeVerdict, firstEmpty, emptyVerdict}
-use Rattle.least_layout.specs.Run.{systemScan, runNeed, leastSum}
+use Rattle.bay_legal.specs.Sets.{bays, setsOf, shapeVerdict, firstEmpty, emptyVerdict}
+use Rattle.run_least_layout.specs.Run.{systemScan, runNeed, leastSum}
 use Rattle.sdc2d_thermo.specs.Run.{earlyVerdict, sumVerdict, runVerdict, mfeAnswer, layoutAfter, energiesAfter, notesAfter}
 use Rattle.run_room.specs.Room.{roomVerdict}
-use Rattle.sets_run.specs.Finished.{Finished}
+use Rattle.run_sets.specs.Finished.{Finished}
 
 -- every refusal has the values of its row
 run-tabled : (s : System) (c : Constraints) (layout energies notes : ℕ) → Tabled (runVerdict s c layout energies notes)

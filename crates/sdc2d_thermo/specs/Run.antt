@@ -6,14 +6,14 @@ use lib.ListN.{length}
 use Rattle.units.specs.declared.EnergyAnswer.{EnergyAnswer}
 use Rattle.units.specs.Answers.{energyAnswer}
 use Rattle.units.specs.Refusals.{Verdict, _▷_, ifPasses}
-use Rattle.sdc2d.specs.System.{System, systemVerdict}
-use Rattle.state_energy.specs.StateG.{energyVerdict, inKcal}
+use Rattle.bay_system.specs.System.{System, systemVerdict}
+use Rattle.energy_state.specs.StateG.{energyVerdict, inKcal}
 use Rattle.bay_lists.specs.Lists.{Constraints}
-use Rattle.legal.specs.Sets.{bays, setsOf, shapeVerdict, emptyVerdict}
+use Rattle.bay_legal.specs.Sets.{bays, setsOf, shapeVerdict, emptyVerdict}
 use Rattle.ledger_rows.specs.Blocks.{energyTable, noteTable}
 use Rattle.run_room.specs.Room.{roomVerdict}
-use Rattle.least_layout.specs.Run.{systemScan, runNeed, leastSum, leastLayout}
-use Rattle.sets_run.specs.Finished.{tableAfter}
+use Rattle.run_least_layout.specs.Run.{systemScan, runNeed, leastSum, leastLayout}
+use Rattle.run_sets.specs.Finished.{tableAfter}
 
 -- what is refused before anything is written: 1 to 4, 5, 7, 8, 9
 abbrev pub earlyVerdict : System → Constraints → (layout energies notes : ℕ) → Verdict

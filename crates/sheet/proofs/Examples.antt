@@ -2,10 +2,10 @@
 use Prim.Native.Nat.{ℕ}
 use mathlib.Core.Path.{_≡_, refl}
 use mathlib.Core.List.{List, [], _∷_, map}
-use Rattle.case_numbers.specs.Digits.{digit, allDigits, worth}
+use Rattle.text_digits.specs.Digits.{digit, allDigits, worth}
 use Rattle.units.specs.Refusals.{Verdict, passes, refuses, _▷_, ifPasses}
 use Rattle.sheet_fields.specs.Fields.{isPlain, plainLength, quotedLength, endingOf, fieldOf, bareField, quotedField, isQuoted, field, unquoted, raw, content, after}
-use Rattle.number_lists.specs.NumberLists.{joined, words, isPlainNumber, areNumbers, valueOf, isList, listIn}
+use Rattle.sheet_number_lists.specs.NumberLists.{joined, words, isPlainNumber, areNumbers, valueOf, isList, listIn}
 use Rattle.sheet_fields.specs.Runs.{past, goesOn}
 use Rattle.sheet_cells.specs.Cells.{isCell, cells, rowFault, sheetFault, sheetVerdict}
 use Rattle.sheet.specs.Read.{gridVerdict, sheetLists}

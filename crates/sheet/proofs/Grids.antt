@@ -6,7 +6,7 @@ use mathlib.Core.Path.{_≡_}
 use native.Mathlib.Nat.{mul-le-mul}
 use borrow.Author.Tests.{leb-true, not-false}
 use lib.Dec.{leb}
-use Rattle.case_numbers.proofs.Worth.{and-left, and-right}
+use Rattle.text_digits.proofs.Worth.{and-left, and-right}
 use Rattle.units.specs.Refusals.{passes}
 use Rattle.units.proofs.Verdicts.{no-fault}
 use Rattle.sheet.specs.Read.{isSide, gridVerdict}

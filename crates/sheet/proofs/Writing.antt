@@ -18,7 +18,7 @@ use Rattle.units.specs.Answers.{countAnswer, countRefusal}
 use Rattle.units.proofs.Verdicts.{refused-first, passed, refused-keeps, no-fault, rest-passes, Tabled, tabled-if, tabled-then}
 use Rattle.units.proofs.Answers.{a-count, refused, given}
 use Rattle.bay_lists.specs.Lists.{constraints, offsetsShaped}
-use Rattle.answer_texts.specs.Puts.{written, Put}
+use Rattle.text_put.specs.Puts.{written, Put}
 use Rattle.sheet_cells.specs.Cells.{front}
 use Rattle.sheet_lengths.specs.Lengths.{capped}
 use Rattle.sheet.specs.Read.{isSide, gridVerdict}

@@ -6,10 +6,10 @@ use mathlib.Core.Path.{_≡_, refl}
 use native.Mathlib.Nat.{zero-add, suc-add}
 use native.Mathlib.Omega.{arith}
 use lib.ListN.{length, length-append}
-use Rattle.case_numbers.proofs.Worth.{and-left, and-right}
+use Rattle.text_digits.proofs.Worth.{and-left, and-right}
 use Rattle.sheet_fields.specs.Fields.{content, after}
 use Rattle.sheet_fields.specs.Runs.{past, bytesIn}
-use Rattle.number_lists.specs.NumberLists.{listIn}
+use Rattle.sheet_number_lists.specs.NumberLists.{listIn}
 use Rattle.sheet_cells.specs.Cells.{isCell, cells, allTiles}
 use Rattle.sheet_cells.specs.Checks.{countIn, areCells}
 use Rattle.sheet_cells.proofs.Quotes.{cell-length}

@@ -7,12 +7,12 @@ use native.Mathlib.Omega.{arith}
 use borrow.Author.Tests.{eqb-true, leb-true}
 use lib.Dec.{eqb, leb, ltb}
 use lib.ListN.{length, length-map}
-use Rattle.case_numbers.specs.Digits.{digit, allDigits}
-use Rattle.case_numbers.proofs.Worth.{and-left, and-right}
+use Rattle.text_digits.specs.Digits.{digit, allDigits}
+use Rattle.text_digits.proofs.Worth.{and-left, and-right}
 use Rattle.sheet_fields.specs.Fields.{field, raw, content}
 use Rattle.sheet_fields.proofs.Bounds.{raw-length}
 use Rattle.sheet_fields.proofs.Quotes.{hasQuote, content-same, read-content}
-use Rattle.number_lists.specs.NumberLists.{joined, words, isPlainNumber, areNumbers, valueOf, isList, listIn}
+use Rattle.sheet_number_lists.specs.NumberLists.{joined, words, isPlainNumber, areNumbers, valueOf, isList, listIn}
 use Rattle.sheet_cells.specs.Cells.{isCell}
 
 -- ---- a list of numbers has no quote

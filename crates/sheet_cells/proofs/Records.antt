@@ -12,9 +12,9 @@ use Rattle.sheet_fields.specs.Fields.{field, raw, content, after, fieldAt}
 use Rattle.sheet_fields.specs.Runs.{bytesIn, goesOn}
 use Rattle.sheet_fields.specs.declared.Field.{Field}
 use Rattle.sheet_fields.proofs.Bounds.{field-at-within, after-at, raw-at}
-use Rattle.number_lists.specs.NumberLists.{isList, listIn}
-use Rattle.number_lists.specs.Counts.{listCount}
-use Rattle.number_lists.specs.declared.ListCount.{ListCount}
+use Rattle.sheet_number_lists.specs.NumberLists.{isList, listIn}
+use Rattle.sheet_number_lists.specs.Counts.{listCount}
+use Rattle.sheet_number_lists.specs.declared.ListCount.{ListCount}
 use Rattle.sheet_cells.specs.Cells.{isCell, rowFault}
 use Rattle.sheet_cells.specs.Checks.{countIn, areCells, cellAt, cellFault, recordFault, recordAt}
 use Rattle.sheet_cells.specs.declared.cells.Cell.{Cell}

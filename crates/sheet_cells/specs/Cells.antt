@@ -7,7 +7,7 @@ use lib.ListN.{length, drop}
 use Rattle.units.specs.Refusals.{Verdict, refuseIf}
 use Rattle.sheet_fields.specs.Fields.{field, content, after}
 use Rattle.sheet_fields.specs.Runs.{past, goesOn}
-use Rattle.number_lists.specs.NumberLists.{isList, listIn}
+use Rattle.sheet_number_lists.specs.NumberLists.{isList, listIn}
 use Rattle.sheet_cells.specs.declared.Place.{Place}
 
 -- the field at the front of a text is sound, and its content is a list

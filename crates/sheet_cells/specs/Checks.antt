@@ -6,7 +6,7 @@ use lib.Dec.{eqb, ltb}
 use lib.ListN.{length, drop}
 use Rattle.sheet_fields.specs.Fields.{field, content, after}
 use Rattle.sheet_fields.specs.Runs.{bytesIn}
-use Rattle.number_lists.specs.NumberLists.{listIn}
+use Rattle.sheet_number_lists.specs.NumberLists.{listIn}
 use Rattle.sheet_cells.specs.Cells.{isCell, cells, rowFault, sheetFault, allTiles}
 use Rattle.sheet_cells.specs.declared.cells.Cell.{Cell}
 use Rattle.sheet_cells.specs.declared.cells.RecordCheck.{RecordCheck}

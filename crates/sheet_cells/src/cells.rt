@@ -4,11 +4,11 @@ ghost use mathlib.Core.Bool.{cond};
 ghost use Prim.Native.Nat.{_-_, _≤_};
 ghost use lib.Dec.{eqb, ltb};
 ghost use lib.ListN.{length, take, drop};
-ghost use Rattle.number_lists.specs.Counts.{listCount};
+ghost use Rattle.sheet_number_lists.specs.Counts.{listCount};
 ghost use Rattle.sheet_cells.specs.Checks.{cellAt, cellFault, recordAt};
-use number_lists::ListCount;
-use number_lists::count_numbers;
 use sheet_fields::field_at;
+use sheet_number_lists::ListCount;
+use sheet_number_lists::count_numbers;
 
 // A field of a sheet: whether it is sound with a list for its content, whether its record goes on, the place after it, and how many
 // numbers it has.

@@ -3,10 +3,10 @@ ghost use Prim.Native.Nat.{_≤_};
 ghost use mathlib.Core.Path.{_≡_};
 ghost use lib.ListN.{length};
 ghost use Rattle.io.specs.Counts.{Counts, clamped};
-ghost use Rattle.answer_texts.specs.Puts.{Put};
+ghost use Rattle.text_put.specs.Puts.{Put};
 ghost use Rattle.sheet_files.specs.Paths.{pathOf};
 ghost use Rattle.sheet_files.specs.Rooms.{LeavesRoom, NothingUnopened, fails};
-use answer_texts::put_text;
+use text_put::put_text;
 
 // What became of a file: whether it could be opened, whether it was read to its end, and how many bytes were read. Where these
 // are as many as the room has, the file may be longer.
@@ -103,5 +103,5 @@ pub fn read_file(folder: &[u8], name: &[u8], room: &mut [u8]) -> FileRead
 {
     let mut path = io::buffer();
     let end = put_path(folder, name, &mut path);
-    read_path(slice_fronts::first_bytes(&path, end), room)
+    read_path(text_fronts::first_bytes(&path, end), room)
 }

@@ -6,9 +6,9 @@ use lib.ListN.{length, take}
 use Rattle.units.specs.declared.CountAnswer.{CountAnswer}
 use Rattle.units.specs.Refusals.{Prints}
 use Rattle.units.specs.Answers.{countRefusal}
-use Rattle.glue_names.specs.Names.{Names, names}
-use Rattle.register_input.specs.Input.{request}
-use Rattle.registering.specs.Register.{registerVerdict, registerAnswer, gluesAfter, scaffoldAfter, basesAfter}
+use Rattle.name_glues.specs.Names.{Names, names}
+use Rattle.name_register_input.specs.Input.{request}
+use Rattle.name_registering.specs.Register.{registerVerdict, registerAnswer, gluesAfter, scaffoldAfter, basesAfter}
 use Rattle.sheet_records.specs.Tables.{columns}
 use Rattle.sheet_names.specs.Appended.{flagOf, ends}
 use Rattle.sheet_names.specs.declared.Entries.{Entries}

@@ -1,14 +1,14 @@
 // From a strands' sheet and a scaffold's sheet to glue numbers: the names of both are laid one after the other and registered.
 ghost use Prim.Native.Nat.{_+_, _-_, _*_, _≤_, _<_};
 ghost use lib.ListN.{length, take, set};
-ghost use Rattle.glue_names.specs.Names.{names};
+ghost use Rattle.name_glues.specs.Names.{names};
 ghost use Rattle.sheet_names.specs.Appended.{Appended};
 ghost use Rattle.sheet_glues.specs.SheetGlues.{glueNames, noEntries, allEntries, laidNames, Registers};
-use registering::register;
+use name_registering::register;
 use sheet_names::Entries;
 use sheet_names::put_columns;
-use slice_fronts::first_bytes;
-use slice_fronts::first_numbers;
+use text_fronts::first_bytes;
+use text_fronts::first_numbers;
 use units::CountAnswer;
 
 // Registers the glue names of two sheets: fields 3 to 7 of each strand's record, then the scaffold's fields row by row. A

@@ -11,7 +11,7 @@ use borrow.Author.Tests.{ltb-false, eqb-true, eqb-false, lt-ltb, ne-eqb}
 use Rattle.units.specs.Refusals.{passes}
 use Rattle.units.proofs.Verdicts.{no-fault}
 use Rattle.sheet_fields.specs.Fields.{field, content, after}
-use Rattle.number_lists.specs.NumberLists.{isList, listIn}
+use Rattle.sheet_number_lists.specs.NumberLists.{isList, listIn}
 use Rattle.sheet_fields.specs.Runs.{contents, past, goesOn}
 use Rattle.sheet_fields.proofs.Runs.{contents-add}
 use Rattle.sheet_cells.specs.Cells.{isCell, cells, rowFault, place, sheetFault, sheetVerdict}

@@ -7,8 +7,8 @@ use native.Mathlib.Omega.{arith}
 use lib.Dec.{eqb, ltb}
 use lib.ListN.{length}
 use borrow.Author.Tests.{ne-eqb}
-use Rattle.entries.proofs.Same.{both}
-use Rattle.case_numbers.specs.Digits.{digit, allDigits}
+use Rattle.text_entries.proofs.Same.{both}
+use Rattle.text_digits.specs.Digits.{digit, allDigits}
 use Rattle.sheet_fields.specs.Fields.{isPlain, plainLength, quotedLength, unquoted, isQuoted}
 use Rattle.sheet_grammar.specs.Grammar.{NumbersText, one, another, ListText, nothing, numbers}
 use Rattle.sheet_grammar.proofs.Bytes.{decimal-digit}

@@ -9,7 +9,7 @@ use lib.Dec.{eqb, leb, ltb}
 use lib.ListN.{length, take, drop}
 use lib.Seq.{take-append-seam}
 use borrow.Author.Tests.{eq-eqb, le-ltb, leb-true, not-false}
-use Rattle.entries.proofs.Same.{both}
+use Rattle.text_entries.proofs.Same.{both}
 use Rattle.units.specs.Answers.{countAnswer}
 use Rattle.units.specs.Refusals.{Verdict, passes, refuses, refuseIf, _▷_, ifPasses}
 use Rattle.units.specs.declared.CountAnswer.the-variants.{Count}

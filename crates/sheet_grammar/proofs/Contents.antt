@@ -8,10 +8,10 @@ use native.Mathlib.Omega.{arith}
 use lib.Dec.{eqb, ltb, leb, lit<}
 use lib.ListN.{length, getD, length-append}
 use borrow.Author.Tests.{ltb-true, leb-true, eqb-true, lt-ltb, le-leb, eq-eqb, ne-eqb}
-use Rattle.entries.proofs.Same.{both}
-use Rattle.case_numbers.specs.Digits.{digit, allDigits, worth}
-use Rattle.case_numbers.proofs.Worth.{worth-grows}
-use Rattle.number_lists.specs.NumberLists.{joined, words, isPlainNumber, areNumbers, valueOf, isList, listIn}
+use Rattle.text_entries.proofs.Same.{both}
+use Rattle.text_digits.specs.Digits.{digit, allDigits, worth}
+use Rattle.text_digits.proofs.Worth.{worth-grows}
+use Rattle.sheet_number_lists.specs.NumberLists.{joined, words, isPlainNumber, areNumbers, valueOf, isList, listIn}
 use Rattle.sheet_grammar.specs.Grammar.{NumbersText, one, another, ListText, nothing, numbers}
 use Rattle.sheet_grammar.proofs.Bytes.{decimal-digit, digit-worth}
 

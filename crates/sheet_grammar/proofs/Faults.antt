@@ -10,7 +10,7 @@ use lib.ListN.{length, length-append}
 use borrow.Author.Tests.{ltb-false, lt-ltb, eqb-true, eqb-false, ne-eqb}
 use Rattle.sheet_fields.specs.Fields.{field, after}
 use Rattle.sheet_fields.specs.Runs.{past, goesOn}
-use Rattle.number_lists.specs.NumberLists.{isList}
+use Rattle.sheet_number_lists.specs.NumberLists.{isList}
 use Rattle.sheet_cells.specs.Cells.{isCell, rowFault, place, sheetFault}
 use Rattle.sheet_cells.specs.declared.Place.{Place}
 use Rattle.sheet_grammar.specs.Grammar.{FieldText, RecordText, last, comma, LineEnd, Separator, at-end, at-comma, at-line, SheetText, none, line, open-ended}

@@ -8,7 +8,7 @@ use native.Mathlib.Omega.{arith}
 use lib.Dec.{eqb, ltb, leb}
 use lib.ListN.{length, getD}
 use borrow.Author.Tests.{ltb-true, leb-true, lt-ltb}
-use Rattle.entries.proofs.Same.{both}
+use Rattle.text_entries.proofs.Same.{both}
 use Rattle.units.specs.Refusals.{refuses, refuseIf, _▷_, refusal, numberOf, valuesOf}
 use Rattle.units.specs.Answers.{countAnswer, countRefusal}
 use Rattle.units.specs.declared.CountAnswer.{CountAnswer}

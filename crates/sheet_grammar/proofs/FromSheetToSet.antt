@@ -7,19 +7,19 @@ use native.Mathlib.Omega.{arith}
 use lib.ListN.{length, getD, take}
 use lib.Dec.{leb}
 use borrow.Author.Tests.{leb-true, not-false}
-use Rattle.entries.proofs.Same.{both}
+use Rattle.text_entries.proofs.Same.{both}
 use Rattle.units.specs.Kelvin.{inKelvinRange}
 use Rattle.units.specs.Refusals.{Verdict, passes, _▷_, ifPasses}
 use Rattle.units.proofs.Verdicts.{first-passes, no-fault}
-use Rattle.sdc2d.specs.System.{System, inRange, sizesFit, lengthsFit, sizesVerdict, gluesVerdict, energiesVerdict, seedsVerdict, systemVerdict}
+use Rattle.bay_system.specs.System.{System, inRange, sizesFit, lengthsFit, sizesVerdict, gluesVerdict, energiesVerdict, seedsVerdict, systemVerdict}
 use Rattle.bay_lists.specs.Lists.{Constraints, constraints, listOf, offsetsShaped}
-use Rattle.legal_at.specs.declared.seeds.Seed.the-variants.{Unseeded}
-use Rattle.legal_at.specs.Legal.{seedAt, isLegal, setAt}
-use Rattle.legal_at.proofs.ChemistsQuestion.{keep-it-empty, no-restriction}
-use Rattle.legal.specs.Sets.{bays, setsOf, shapeVerdict, emptyVerdict, allowedVerdict, setsAfter}
-use Rattle.legal.proofs.Seven.{set-of-bay}
+use Rattle.bay_legal_at.specs.declared.seeds.Seed.the-variants.{Unseeded}
+use Rattle.bay_legal_at.specs.Legal.{seedAt, isLegal, setAt}
+use Rattle.bay_legal_at.proofs.ChemistsQuestion.{keep-it-empty, no-restriction}
+use Rattle.bay_legal.specs.Sets.{bays, setsOf, shapeVerdict, emptyVerdict, allowedVerdict, setsAfter}
+use Rattle.bay_legal.proofs.Seven.{set-of-bay}
 use Rattle.sheet_fields.specs.Fields.{after}
-use Rattle.number_lists.specs.NumberLists.{isList, listIn}
+use Rattle.sheet_number_lists.specs.NumberLists.{isList, listIn}
 use Rattle.sheet_fields.specs.Runs.{contents}
 use Rattle.sheet_cells.specs.Cells.{cells}
 use Rattle.sheet.specs.Read.{sheetLists, tileCount, readVerdict, offsetsAfter, tilesAfter}

@@ -9,10 +9,10 @@ use lib.Dec.{eqb, ltb, leb, lit<}
 use lib.ListN.{length, getD, length-append, List·getD-append}
 use lib.Seq.{append-snoc}
 use borrow.Author.Tests.{ltb-true, ltb-false, lt-ltb, le-ltb, leb-true, leb-false, eqb-true, eqb-false, ne-eqb}
-use Rattle.entries.proofs.Same.{both}
-use Rattle.answer_texts.specs.Puts.{decimal, numberText}
-use Rattle.case_numbers.specs.Digits.{digit, allDigits, worth}
-use Rattle.number_lists.specs.NumberLists.{isPlainNumber}
+use Rattle.text_entries.proofs.Same.{both}
+use Rattle.text_put.specs.Puts.{decimal, numberText}
+use Rattle.text_digits.specs.Digits.{digit, allDigits, worth}
+use Rattle.sheet_number_lists.specs.NumberLists.{isPlainNumber}
 use Rattle.sheet_grammar.proofs.Bytes.{Between, decimal-digit, digit-worth}
 use Rattle.sheet_grammar.proofs.Contents.{PlainNumber, plain-number, plain-number-is, zero-alone}
 

@@ -10,9 +10,9 @@ use lib.Dec.{eqb}
 use lib.ListN.{length, getD, drop, length-append, take-append-drop, drop-of-length-le}
 use lib.Seq.{drop-cons, drop-drop, drop-length, take-append-seam, drop-append-seam}
 use borrow.Author.Tests.{eqb-true, eq-eqb, le-leb}
-use Rattle.entries.specs.Entries.{part, offsetsFit, offsetsFrom}
-use Rattle.entries.proofs.Bounds.{entry-starts, offset-within, length-part}
-use Rattle.entries.proofs.Same.{both}
+use Rattle.text_entries.specs.Entries.{part, offsetsFit, offsetsFrom}
+use Rattle.text_entries.proofs.Bounds.{entry-starts, offset-within, length-part}
+use Rattle.text_entries.proofs.Same.{both}
 use Rattle.bay_lists.specs.Lists.{Constraints, constraints, listOf, offsetsShaped}
 use Rattle.sheet_cells.specs.Cells.{allTiles, starts}
 use Rattle.sheet_grammar.specs.Contents.{listsOf}

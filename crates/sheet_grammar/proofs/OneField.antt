@@ -10,11 +10,11 @@ use lib.Dec.{eqb, leb}
 use lib.ListN.{length, getD, take, drop, take-append-drop, List·getD-eq-default}
 use lib.Seq.{take-append-seam, drop-append-seam, drop-append-add, getD-append-seam, drop-drop, drop-cons, append-snoc}
 use borrow.Author.Tests.{eqb-true, leb-true, leb-false}
-use Rattle.entries.proofs.Same.{both}
+use Rattle.text_entries.proofs.Same.{both}
 use Rattle.sheet_fields.specs.Fields.{isPlain, plainLength, quotedLength, broken, ended, endingOf, fieldOf, bareField, quotedField, isQuoted, field, unquoted, raw, content, after}
 use Rattle.sheet_fields.specs.declared.Ending.{Ending}
 use Rattle.sheet_fields.specs.declared.Field.{Field}
-use Rattle.number_lists.specs.NumberLists.{isList, listIn}
+use Rattle.sheet_number_lists.specs.NumberLists.{isList, listIn}
 use Rattle.sheet_cells.specs.Cells.{isCell}
 use Rattle.sheet_grammar.specs.Grammar.{FieldText, bare, quoted, lf, crlf, Separator, at-end, at-comma, at-line}
 use Rattle.sheet_grammar.proofs.Contents.{list-read, list-text}

@@ -5,7 +5,7 @@ use mathlib.Core.List.{List, [], _∷_, _++_, map}
 use lib.ListN.{length}
 use Rattle.units.specs.Refusals.{Verdict, ifPasses}
 use Rattle.units.specs.Answers.{countAnswer}
-use Rattle.number_lists.specs.NumberLists.{listIn}
+use Rattle.sheet_number_lists.specs.NumberLists.{listIn}
 use Rattle.sheet_cells.specs.Cells.{allTiles, starts, front}
 use Rattle.sheet.specs.Read.{sheetLists, readVerdict, readAnswer, offsetsAfter, tilesAfter}
 use Rattle.sheet_grammar.specs.Grammar.{RecordText, last, comma, SheetText, none, line, open-ended}

@@ -11,10 +11,10 @@ use lib.Seq.{getD-take, getD-drop, take-append-seam}
 use borrow.Author.Tests.{le-ltb, ltb-false, leb-true, leb-false, eq-eqb, not-false}
 use Rattle.units.specs.Refusals.{Verdict, passes, refuseIf, _▷_, ifPasses}
 use Rattle.units.proofs.Verdicts.{first-passes, rest-passes, no-fault}
-use Rattle.answer_texts.specs.Puts.{numberText}
+use Rattle.text_put.specs.Puts.{numberText}
 use Rattle.bay_lists.specs.Lists.{Constraints, constraints, listOf, offsetsShaped}
-use Rattle.entries.specs.Entries.{part}
-use Rattle.entries.proofs.Same.{both}
+use Rattle.text_entries.specs.Entries.{part}
+use Rattle.text_entries.proofs.Same.{both}
 use Rattle.sheet_cells.specs.Cells.{place, sheetFault, allTiles, starts, front}
 use Rattle.sheet_text.specs.Written.{gap, spaced, separator, rowText, sheetText}
 use Rattle.sheet.specs.Read.{isSide, gridVerdict, sheetLists, tileCount, readVerdict, offsetsAfter, tilesAfter}

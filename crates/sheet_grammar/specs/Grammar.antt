@@ -4,8 +4,8 @@ use Prim.Native.Nat.{ℕ, suc}
 use mathlib.Core.Path.{_≡_}
 use mathlib.Core.Bool.{Bool, true, false}
 use mathlib.Core.List.{List, [], _∷_, _++_}
-use Rattle.case_numbers.specs.Digits.{worth}
-use Rattle.number_lists.specs.NumberLists.{isPlainNumber}
+use Rattle.text_digits.specs.Digits.{worth}
+use Rattle.sheet_number_lists.specs.NumberLists.{isPlainNumber}
 
 -- one number or more, single spaces between them
 pub data NumbersText : List ℕ → List ℕ → Type 0 where

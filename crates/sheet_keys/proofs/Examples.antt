@@ -4,8 +4,8 @@ use mathlib.Core.List.{List, [], _∷_, map}
 use mathlib.Core.Path.{_≡_, refl}
 use lib.Ieee.{round}
 use Rattle.units.specs.Decimals.{decimal, plus}
-use Rattle.case_numbers.specs.Digits.{digit, allDigits, worth}
-use Rattle.decimals.specs.Decimals.{wholeLength, isFormed, areFew, isUnsigned, valueOf, signedOf, decimalOf}
+use Rattle.text_digits.specs.Digits.{digit, allDigits, worth}
+use Rattle.text_decimals.specs.Decimals.{wholeLength, isFormed, areFew, isUnsigned, valueOf, signedOf, decimalOf}
 use Rattle.sheet_fields.specs.Fields.{isPlain, plainLength, endingOf, fieldOf, bareField, quotedField, isQuoted, field, raw, content, after}
 use Rattle.sheet_fields.specs.Runs.{contents, past}
 use Rattle.sheet_records.specs.Tables.{columns}

@@ -8,8 +8,8 @@ use native.Mathlib.Omega.{arith}
 use lib.Ieee.{Float}
 use lib.ListN.{length, take, drop, set, length-set}
 use lib.Seq.{sets}
-use Rattle.case_numbers.specs.declared.kinds.FloatValue.{FloatValue}
-use Rattle.decimals.specs.Decimals.{decimalOf}
+use Rattle.text_digits.specs.declared.kinds.FloatValue.{FloatValue}
+use Rattle.text_decimals.specs.Decimals.{decimalOf}
 use Rattle.sheet_fields.specs.Fields.{content, fieldAt}
 use Rattle.sheet_fields.specs.declared.Field.{Field}
 use Rattle.sheet_fields.specs.Runs.{contents, past, bytesIn}

@@ -6,7 +6,7 @@ use lib.Dec.{eqb}
 use lib.Ieee.{Float}
 use lib.ListN.{length, getD, drop, set}
 use Rattle.units.specs.Decimals.{plus}
-use Rattle.case_numbers.specs.declared.kinds.FloatValue.{FloatValue}
+use Rattle.text_digits.specs.declared.kinds.FloatValue.{FloatValue}
 use Rattle.sheet_fields.specs.Runs.{contents, past}
 use Rattle.sheet_records.specs.Tables.{columns}
 use Rattle.sheet_names.specs.Appended.{Appended}

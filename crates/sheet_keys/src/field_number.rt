@@ -2,11 +2,11 @@
 ghost use mathlib.Core.Path.{_≡_};
 ghost use Prim.Native.Nat.{_-_, _≤_};
 ghost use lib.ListN.{length, take, drop};
-ghost use Rattle.decimals.specs.Decimals.{decimalOf};
+ghost use Rattle.text_decimals.specs.Decimals.{decimalOf};
 ghost use Rattle.sheet_fields.specs.Fields.{content};
 ghost use Rattle.sheet_keys.specs.SheetKeys.{numberOf, valueOf};
-use case_numbers::FloatValue;
 use sheet_fields::field_at;
+use text_digits::FloatValue;
 
 // Whether a field is a decimal, and its value, 0.0 where it is none.
 pub(crate) struct FieldNumber {
@@ -28,7 +28,7 @@ fn decimal_between(sheet: &[u8], from: usize, to: usize) -> FloatValue
     requires { ⌜ (from ≤ to) × (to ≤ length (now sheet)) ⌝ }
     ensures { λ r. ⌜ r ≡ decimalOf (take (to - from) (drop from (now (sheet .entry)))) ⌝ }
 {
-    decimals::decimal(&sheet[from..to])
+    text_decimals::decimal(&sheet[from..to])
 }
 
 // A value with a flag.

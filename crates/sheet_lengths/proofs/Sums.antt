@@ -6,8 +6,8 @@ use native.Mathlib.Omega.{arith}
 use lib.ListN.{length, getD, drop, length-append}
 use lib.Dec.{lit<, lit≤}
 use Rattle.io.specs.Digits.{digits, Fewest}
-use Rattle.answer_texts.specs.Puts.{numberText}
-use Rattle.answer_texts.proofs.Spelling.{at-most, number-text}
+use Rattle.text_put.specs.Puts.{numberText}
+use Rattle.text_put.proofs.Spelling.{at-most, number-text}
 use Rattle.bay_lists.specs.Lists.{Constraints, listOf}
 use Rattle.sheet_text.specs.Written.{gap, spaced, separator, rowText, sheetText}
 use Rattle.sheet_text.proofs.Parts.{field-next, record-next, record-end, sheet-next, sheet-end, rows-left}

@@ -6,7 +6,7 @@ ghost use mathlib.Core.Bool.{true};
 ghost use mathlib.Core.List.{_++_};
 ghost use Prim.Native.Nat.{_+_, _*_, _≤_};
 ghost use lib.ListN.{length};
-ghost use Rattle.answer_texts.specs.Puts.{numberText};
+ghost use Rattle.text_put.specs.Puts.{numberText};
 ghost use Rattle.bay_lists.specs.Lists.{constraints, listOf, offsetsShaped};
 ghost use Rattle.sheet_text.specs.Written.{gap, spaced, separator, rowText, sheetText};
 ghost use Rattle.sheet_text.specs.Asked.{HasLists};

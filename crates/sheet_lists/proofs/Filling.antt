@@ -8,13 +8,13 @@ use native.Mathlib.Numerals.{add-one}
 use native.Mathlib.Omega.{arith}
 use lib.ListN.{length, take, drop, set, length-set, drop-of-length-le}
 use lib.Seq.{take-suc-set, set-split, take-length}
-use Rattle.case_numbers.proofs.Worth.{and-left, and-right}
-use Rattle.answer_texts.specs.Puts.{Put, written}
-use Rattle.answer_texts.proofs.Putting.{Ending, ending-starts, ending-goes-on, ending-ends, put-as, put-long}
+use Rattle.text_digits.proofs.Worth.{and-left, and-right}
+use Rattle.text_put.specs.Puts.{Put, written}
+use Rattle.text_put.proofs.Putting.{Ending, ending-starts, ending-goes-on, ending-ends, put-as, put-long}
 use Rattle.sheet_fields.specs.Fields.{field, raw, content, after, fieldAt}
 use Rattle.sheet_fields.specs.declared.Field.{Field}
 use Rattle.sheet_fields.proofs.Bounds.{field-at-within, after-at, raw-at}
-use Rattle.number_lists.specs.NumberLists.{isList, listIn}
+use Rattle.sheet_number_lists.specs.NumberLists.{isList, listIn}
 use Rattle.sheet_cells.specs.Cells.{isCell, cells, allTiles, starts, front}
 use Rattle.sheet_cells.specs.Checks.{countIn, areCells}
 use Rattle.sheet_cells.proofs.Quotes.{content-list, content-raw}

@@ -3,12 +3,12 @@ ghost use mathlib.Core.Path.{_≡_};
 ghost use mathlib.Core.Bool.{true};
 ghost use Prim.Native.Nat.{_+_, _-_, _≤_};
 ghost use lib.ListN.{length, take, drop};
-ghost use Rattle.answer_texts.specs.Puts.{Put};
-ghost use Rattle.number_lists.specs.NumberLists.{listIn};
+ghost use Rattle.text_put.specs.Puts.{Put};
+ghost use Rattle.sheet_number_lists.specs.NumberLists.{listIn};
 ghost use Rattle.sheet_cells.specs.Cells.{cells, allTiles, starts, front};
 ghost use Rattle.sheet_cells.specs.Checks.{areCells, countIn};
-use number_lists::put_list;
 use sheet_fields::field_at;
+use sheet_number_lists::put_list;
 
 // Writes the lists of the first `bays` fields. Records play no part here: a field's end says where the next one begins.
 pub fn put_lists(text: &[u8], bays: usize, offsets: &mut [usize], tiles: &mut [u32])

@@ -9,8 +9,8 @@ use borrow.Author.Tests.{eq-eqb, ne-eqb, ltb-true, ltb-false}
 use lib.Dec.{eqb, ltb}
 use lib.ListN.{length, take, drop, set, length-append, length-map, length-take, length-drop}
 use lib.Seq.{sets, length-sets, paste-zero}
-use Rattle.answer_texts.specs.Puts.{Put, written}
-use Rattle.answer_texts.proofs.Putting.{put-as, then-put, put-long}
+use Rattle.text_put.specs.Puts.{Put, written}
+use Rattle.text_put.proofs.Putting.{put-as, then-put, put-long}
 use Rattle.sheet_names.specs.Appended.{flagOf, ends, Appended}
 use Rattle.sheet_names.specs.declared.Entries.{Entries}
 

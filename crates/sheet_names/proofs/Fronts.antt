@@ -8,7 +8,7 @@ use borrow.Author.Tests.{leb-true, leb-false}
 use lib.Dec.{leb}
 use lib.ListN.{length, take, drop, length-append, length-map}
 use lib.Seq.{sets, sets-eq, length-take-le, take-all, take-at, take-length, take-paste}
-use Rattle.answer_texts.specs.Puts.{Put, written}
+use Rattle.text_put.specs.Puts.{Put, written}
 use Rattle.sheet_names.specs.Appended.{flagOf, ends, Appended}
 use Rattle.sheet_names.specs.declared.Entries.{Entries}
 use Rattle.sheet_names.proofs.Appending.{length-ends}

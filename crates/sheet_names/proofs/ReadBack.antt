@@ -6,8 +6,8 @@ use native.Mathlib.Nat.{add-zero}
 use native.Mathlib.Omega.{arith}
 use lib.ListN.{length, getD, take, drop, length-append, List·getD-append}
 use lib.Seq.{sets, sets-eq, length-take-le, getD-take, getD-append-add, drop-append-add, drop-append-seam, take-append-seam, take-length}
-use Rattle.entries.specs.Entries.{entryOf}
-use Rattle.answer_texts.specs.Puts.{written}
+use Rattle.text_entries.specs.Entries.{entryOf}
+use Rattle.text_put.specs.Puts.{written}
 use Rattle.sheet_names.specs.Appended.{ends, Appended}
 use Rattle.sheet_names.specs.declared.Entries.{Entries}
 use Rattle.sheet_names.proofs.Appending.{length-ends}

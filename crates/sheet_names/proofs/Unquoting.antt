@@ -9,8 +9,8 @@ use borrow.Author.Tests.{eq-eqb, ne-eqb}
 use lib.Dec.{eqb}
 use lib.ListN.{length, getD, drop, length-drop, drop-of-length-le, List·getD-eq-default}
 use lib.Seq.{drop-drop, getD-drop, paste-zero}
-use Rattle.answer_texts.specs.Puts.{Put, written}
-use Rattle.answer_texts.proofs.Putting.{put-as, then-put, put-long}
+use Rattle.text_put.specs.Puts.{Put, written}
+use Rattle.text_put.proofs.Putting.{put-as, then-put, put-long}
 use Rattle.sheet_fields.specs.Fields.{unquoted}
 use Rattle.sheet_names.specs.Appended.{pairStep}
 

@@ -6,7 +6,7 @@ use mathlib.Core.Path.{_≡_}
 use lib.Dec.{eqb}
 use lib.ListN.{length, getD}
 use lib.Seq.{sets}
-use Rattle.answer_texts.specs.Puts.{Put}
+use Rattle.text_put.specs.Puts.{Put}
 use Rattle.sheet_names.specs.declared.Entries.{Entries}
 
 -- 0 for an entry without a byte, 1 for any other

@@ -5,14 +5,14 @@ ghost use mathlib.Core.List.{[], _∷_};
 ghost use Prim.Native.Nat.{_+_, _-_, _*_, _≤_, _<_, min};
 ghost use lib.Dec.{ltb};
 ghost use lib.ListN.{length, take, drop};
-ghost use Rattle.answer_texts.specs.Puts.{Put};
+ghost use Rattle.text_put.specs.Puts.{Put};
 ghost use Rattle.sheet_fields.specs.Fields.{content, unquoted};
 ghost use Rattle.sheet_fields.specs.Runs.{contents};
 ghost use Rattle.sheet_records.specs.Tables.{columns};
 ghost use Rattle.sheet_names.specs.Appended.{Appended, pairStep};
-use answer_texts::put_text;
 use sheet_fields::field_at;
 use sheet_records::place_after;
+use text_put::put_text;
 
 // How many entries there are, and how many bytes they take.
 pub struct Entries {

@@ -5,9 +5,9 @@ use mathlib.Core.List.{List, [], _∷_, map}
 use mathlib.Core.Path.{_≡_, refl}
 use lib.Ieee.{inf, round}
 use Rattle.units.specs.Decimals.{decimal, plus, minus}
-use Rattle.case_numbers.specs.Digits.{digit, allDigits, worth}
-use Rattle.decimals.specs.Decimals.{wholeLength, isFormed, areFew, isUnsigned, valueOf, signedOf, decimalOf, isMinusInfinity, logarithmOf}
-use Rattle.number_lists.specs.NumberLists.{isPlainNumber, valueOf as NumberLists·valueOf}
+use Rattle.text_digits.specs.Digits.{digit, allDigits, worth}
+use Rattle.text_decimals.specs.Decimals.{wholeLength, isFormed, areFew, isUnsigned, valueOf, signedOf, decimalOf, isMinusInfinity, logarithmOf}
+use Rattle.sheet_number_lists.specs.NumberLists.{isPlainNumber, valueOf as NumberLists·valueOf}
 use Rattle.sheet_numbers.specs.Faults.{firstFault}
 use Rattle.sheet_numbers.specs.Floats.{decimals, logarithms, readAs, isRead, valueAs}
 use Rattle.sheet_numbers.specs.Counts.{isCount, fromZero}

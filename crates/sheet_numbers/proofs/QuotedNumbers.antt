@@ -8,13 +8,13 @@ use borrow.Author.Tests.{eqb-true, ne-eqb, lt-ltb}
 use lib.Dec.{eqb, leb, ltb}
 use lib.ListN.{length, getD, take, drop}
 use Rattle.units.specs.Decimals.{plus}
-use Rattle.case_numbers.specs.Digits.{digit, allDigits, worth}
-use Rattle.case_numbers.specs.declared.kinds.FloatValue.{FloatValue}
-use Rattle.case_numbers.proofs.Worth.{and-left, and-right}
-use Rattle.decimals.specs.Decimals.{wholeLength, places, wholePart, isFormed, areFew, isUnsigned, signedOf, decimalOf, isMinusInfinity, logarithmOf}
-use Rattle.number_lists.specs.NumberLists.{isPlainNumber, valueOf}
-use Rattle.number_lists.specs.Counts.{plainNumber}
-use Rattle.number_lists.specs.declared.plain.PlainNumber.{PlainNumber}
+use Rattle.text_digits.specs.Digits.{digit, allDigits, worth}
+use Rattle.text_digits.specs.declared.kinds.FloatValue.{FloatValue}
+use Rattle.text_digits.proofs.Worth.{and-left, and-right}
+use Rattle.text_decimals.specs.Decimals.{wholeLength, places, wholePart, isFormed, areFew, isUnsigned, signedOf, decimalOf, isMinusInfinity, logarithmOf}
+use Rattle.sheet_number_lists.specs.NumberLists.{isPlainNumber, valueOf}
+use Rattle.sheet_number_lists.specs.Counts.{plainNumber}
+use Rattle.sheet_number_lists.specs.declared.plain.PlainNumber.{PlainNumber}
 use Rattle.sheet_fields.specs.Fields.{content, fieldAt}
 use Rattle.sheet_fields.specs.declared.Field.{Field}
 use Rattle.sheet_fields.proofs.Bounds.{raw-at}

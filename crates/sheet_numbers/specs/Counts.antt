@@ -3,8 +3,8 @@ use Prim.Native.Nat.{ℕ, _-_}
 use mathlib.Core.Bool.{Bool, _&&_}
 use mathlib.Core.List.{List}
 use lib.Dec.{ltb}
-use Rattle.number_lists.specs.NumberLists.{isPlainNumber, valueOf}
-use Rattle.number_lists.specs.declared.plain.PlainNumber.{PlainNumber}
+use Rattle.sheet_number_lists.specs.NumberLists.{isPlainNumber, valueOf}
+use Rattle.sheet_number_lists.specs.declared.plain.PlainNumber.{PlainNumber}
 use Rattle.sheet_numbers.specs.declared.count_column.Count.{Count}
 
 -- a plain number that is not 0

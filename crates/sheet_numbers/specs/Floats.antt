@@ -6,8 +6,8 @@ use lib.Dec.{eqb}
 use lib.Ieee.{Float}
 use lib.ListN.{length}
 use Rattle.units.specs.Decimals.{plus}
-use Rattle.case_numbers.specs.declared.kinds.FloatValue.{FloatValue}
-use Rattle.decimals.specs.Decimals.{decimalOf, logarithmOf}
+use Rattle.text_digits.specs.declared.kinds.FloatValue.{FloatValue}
+use Rattle.text_decimals.specs.Decimals.{decimalOf, logarithmOf}
 use Rattle.sheet_numbers.specs.declared.float_column.Kind.{Kind}
 use Rattle.sheet_numbers.specs.declared.float_column.Reading.{Reading}
 

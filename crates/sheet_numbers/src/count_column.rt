@@ -5,14 +5,14 @@ ghost use Prim.Native.Nat.{_-_, _≤_};
 ghost use lib.ListN.{length, take, drop};
 ghost use lib.Seq.{sets};
 ghost use Rattle.sheet_fields.specs.Fields.{content};
-ghost use Rattle.number_lists.specs.Counts.{plainNumber};
+ghost use Rattle.sheet_number_lists.specs.Counts.{plainNumber};
 ghost use Rattle.sheet_records.specs.Tables.{columns};
 ghost use Rattle.sheet_numbers.specs.Faults.{firstFault};
 ghost use Rattle.sheet_numbers.specs.Counts.{isCount, fromZero, countOf, lessOne};
 use crate::faults::first_fault;
-use number_lists::PlainNumber;
-use number_lists::plain_number;
 use sheet_fields::field_at;
+use sheet_number_lists::PlainNumber;
+use sheet_number_lists::plain_number;
 use sheet_records::place_after;
 
 // Whether a field is a count, and the same counted from 0.

@@ -11,9 +11,9 @@ ghost use Rattle.sheet_records.specs.Tables.{columns};
 ghost use Rattle.sheet_numbers.specs.Faults.{firstFault};
 ghost use Rattle.sheet_numbers.specs.Floats.{decimals, logarithms, readingOf, readAs, isRead, valueAs};
 use crate::faults::first_fault;
-use case_numbers::FloatValue;
 use sheet_fields::field_at;
 use sheet_records::place_after;
+use text_digits::FloatValue;
 
 // How a column is read: as logarithms, of which `-inf` is one, or as decimals; and whether a field may be blank.
 pub(crate) struct Kind {
@@ -121,9 +121,9 @@ fn read_as(kind: Kind, text: &[u8]) -> Reading
         };
     }
     if kind.logarithms {
-        return reading_of(decimals::logarithm(text));
+        return reading_of(text_decimals::logarithm(text));
     }
-    reading_of(decimals::decimal(text))
+    reading_of(text_decimals::decimal(text))
 }
 
 // Whether there are no bytes where none need be.

@@ -2,8 +2,8 @@
 use Prim.Native.Nat.{ℕ}
 use mathlib.Core.List.{List, [], _∷_}
 use mathlib.Core.Path.{_≡_, refl}
-use Rattle.case_numbers.specs.Digits.{digit, allDigits, worth}
-use Rattle.number_lists.specs.NumberLists.{isPlainNumber, valueOf}
+use Rattle.text_digits.specs.Digits.{digit, allDigits, worth}
+use Rattle.sheet_number_lists.specs.NumberLists.{isPlainNumber, valueOf}
 use Rattle.sheet_fields.specs.Fields.{isPlain, plainLength, endingOf, fieldOf, bareField, isQuoted, field, raw, content, after}
 use Rattle.sheet_fields.specs.Runs.{contents, past}
 use Rattle.sheet_records.specs.Tables.{columns}

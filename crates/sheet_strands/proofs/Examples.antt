@@ -4,9 +4,9 @@ use mathlib.Core.List.{List, [], _∷_}
 use mathlib.Core.Path.{_≡_, refl}
 use lib.Ieee.{round}
 use Rattle.units.specs.Decimals.{decimal, plus, minus}
-use Rattle.case_numbers.specs.Digits.{digit, allDigits, worth}
-use Rattle.strand_names.specs.Names.{nullName}
-use Rattle.decimals.specs.Decimals.{wholeLength, isFormed, areFew, isUnsigned, valueOf, signedOf, decimalOf, isMinusInfinity, logarithmOf}
+use Rattle.text_digits.specs.Digits.{digit, allDigits, worth}
+use Rattle.name_strands.specs.Names.{nullName}
+use Rattle.text_decimals.specs.Decimals.{wholeLength, isFormed, areFew, isUnsigned, valueOf, signedOf, decimalOf, isMinusInfinity, logarithmOf}
 use Rattle.sheet_fields.specs.Fields.{isPlain, plainLength, endingOf, fieldOf, bareField, isQuoted, field, raw, content, after}
 use Rattle.sheet_fields.specs.Runs.{contents, past}
 use Rattle.sheet_records.specs.Tables.{columns}

@@ -6,8 +6,8 @@ use native.Mathlib.Nat.{zero-add}
 use native.Mathlib.Omega.{arith}
 use lib.ListN.{length, getD, set, length-set}
 use lib.Seq.{getD-set-same}
-use Rattle.entries.specs.Entries.{entryOf}
-use Rattle.answer_texts.specs.Puts.{Put}
+use Rattle.text_entries.specs.Entries.{entryOf}
+use Rattle.text_put.specs.Puts.{Put}
 use Rattle.sheet_names.specs.Appended.{flagOf, Appended}
 use Rattle.sheet_names.specs.declared.Entries.{Entries}
 use Rattle.sheet_names.proofs.Appending.{append-one, then-append}

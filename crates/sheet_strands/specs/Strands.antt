@@ -3,7 +3,7 @@ use Prim.Native.Nat.{ℕ}
 use mathlib.Core.List.{List, _∷_, map}
 use lib.Ieee.{Float}
 use Rattle.units.specs.Decimals.{plus}
-use Rattle.strand_names.specs.Names.{nullName}
+use Rattle.name_strands.specs.Names.{nullName}
 use Rattle.sheet_records.specs.Tables.{columns}
 use Rattle.sheet_numbers.specs.Faults.{firstFault}
 use Rattle.sheet_numbers.specs.Floats.{logarithms, isRead, valueAs}

@@ -5,10 +5,10 @@ ghost use lib.ListN.{length};
 ghost use lib.Seq.{sets};
 ghost use Rattle.sheet_strands.specs.Filled.{Filled};
 ghost use Rattle.sheet_strands.specs.Strands.{namesOf, logsOf, logFault};
-use answer_texts::put_text;
 use sheet_names::Entries;
 use sheet_names::put_columns;
 use sheet_numbers::put_logarithms;
+use text_put::put_text;
 
 // Puts the names of the strands, `null` for strand 0, then the first field of each record, and answers how many bytes they take.
 pub fn put_names(

@@ -2,7 +2,7 @@
 use mathlib.Core.Bool.{true}
 use mathlib.Core.List.{[], _∷_}
 use mathlib.Core.Path.{_≡_, refl}
-use Rattle.answer_texts.specs.Puts.{decimal, numberText}
+use Rattle.text_put.specs.Puts.{decimal, numberText}
 use Rattle.bay_lists.specs.Lists.{constraints}
 use Rattle.sheet_text.specs.Written.{gap, spaced, separator, rowText, sheetText}
 

@@ -7,7 +7,7 @@ use native.Mathlib.Nat.{suc-mul}
 use native.Mathlib.Omega.{arith}
 use lib.ListN.{length, getD, drop, drop-of-length-le}
 use lib.Seq.{drop-cons}
-use Rattle.answer_texts.specs.Puts.{numberText}
+use Rattle.text_put.specs.Puts.{numberText}
 use Rattle.bay_lists.specs.Lists.{Constraints, listOf}
 use Rattle.sheet_text.specs.Written.{gap, spaced, separator, rowText, sheetText}
 

@@ -5,11 +5,11 @@ use mathlib.Core.List.{List, _++_}
 use mathlib.Core.Path.{_≡_, refl}
 use native.Mathlib.Omega.{arith}
 use lib.ListN.{length, getD}
-use Rattle.entries.proofs.Bounds.{entry-starts, offset-within}
+use Rattle.text_entries.proofs.Bounds.{entry-starts, offset-within}
 use Rattle.bay_lists.specs.Lists.{Constraints, constraints, listOf, offsetsShaped}
 use Rattle.bay_lists.proofs.Restricting.{list-shape}
-use Rattle.answer_texts.specs.Puts.{Put}
-use Rattle.answer_texts.proofs.Putting.{Ending, ending-starts, ending-goes-on, ending-ends}
+use Rattle.text_put.specs.Puts.{Put}
+use Rattle.text_put.proofs.Putting.{Ending, ending-starts, ending-goes-on, ending-ends}
 use Rattle.sheet_text.specs.Written.{spaced, separator, rowText, sheetText}
 use Rattle.sheet_text.specs.Asked.{HasLists}
 use Rattle.sheet_text.proofs.Parts.{record-next, record-end, sheet-next, sheet-end, rows-left}

@@ -4,7 +4,7 @@ use mathlib.Core.Bool.{true}
 use mathlib.Core.List.{List}
 use mathlib.Core.Path.{_≡_}
 use lib.ListN.{length}
-use Rattle.entries.specs.Entries.{offsetsFit}
+use Rattle.text_entries.specs.Entries.{offsetsFit}
 
 -- there are lists for so many bays, each within the tiles
 pub record HasLists (offsets tiles : List ℕ) (bays : ℕ) : Type 0 where

@@ -1,7 +1,7 @@
 -- A sheet as it is written: unquoted, numbers with single spaces between them, each record ended by CR LF. Assumes nothing.
 use Prim.Native.Nat.{ℕ, zero, suc, _+_}
 use mathlib.Core.List.{List, [], _∷_, _++_}
-use Rattle.answer_texts.specs.Puts.{numberText}
+use Rattle.text_put.specs.Puts.{numberText}
 use Rattle.bay_lists.specs.Lists.{Constraints, listOf}
 
 -- a space before each number but the one at place 0

@@ -6,12 +6,12 @@ ghost use mathlib.Core.Bool.{true};
 ghost use mathlib.Core.List.{_++_};
 ghost use Prim.Native.Nat.{_+_, _*_, _≤_};
 ghost use lib.ListN.{length};
-ghost use Rattle.answer_texts.specs.Puts.{Put, numberText};
+ghost use Rattle.text_put.specs.Puts.{Put, numberText};
 ghost use Rattle.bay_lists.specs.Lists.{constraints, listOf, offsetsShaped};
 ghost use Rattle.sheet_text.specs.Written.{gap, spaced, separator, rowText, sheetText};
 ghost use Rattle.sheet_text.specs.Asked.{HasLists};
-use answer_texts::put_number;
-use answer_texts::put_text;
+use text_put::put_number;
+use text_put::put_text;
 
 // The sheet of a grid.
 pub fn put_sheet(

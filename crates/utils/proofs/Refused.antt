@@ -10,9 +10,9 @@ use borrow.Author.Tests.{ltb-false}
 use Rattle.units.specs.Refusals.{passes, _▷_}
 use Rattle.units.specs.Kelvin.{kelvinVerdict, inKelvinRange}
 use Rattle.units.proofs.Verdicts.{Tabled, tabled-if, tabled-then, no-fault, first-passes, rest-passes}
-use Rattle.letters.specs.Letters.{lengthVerdict, lettersVerdict, firstBad}
-use Rattle.letters.proofs.Limits.{length-tabled, letters-tabled, not-longer}
-use Rattle.single_sequence.specs.Single.{shortVerdict, sequenceVerdict, singleVerdict, singleAtVerdict}
+use Rattle.dna_letters.specs.Letters.{lengthVerdict, lettersVerdict, firstBad}
+use Rattle.dna_letters.proofs.Limits.{length-tabled, letters-tabled, not-longer}
+use Rattle.dna_single.specs.Single.{shortVerdict, sequenceVerdict, singleVerdict, singleAtVerdict}
 
 pub sequence-tabled : (sequence : ℕ) (dna : List ℕ) → Tabled (sequenceVerdict sequence dna)
 sequence-tabled sequence dna =

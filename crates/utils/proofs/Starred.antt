@@ -4,13 +4,13 @@ use mathlib.Core.List.{map}
 use lib.Ieee.{ofBits, add}
 use Rattle.units.specs.Decimals.{decimal}
 use Rattle.units.specs.Places.{firstFailing}
-use Rattle.bases.specs.Bases.{baseOf}
-use Rattle.letters.specs.Letters.{isLetter}
-use Rattle.step_values.specs.Steps.{noEnergy, stepOf, dgDs}
-use Rattle.mismatch_values.specs.Mismatches.{calcPenalty, penaltyTable}
-use Rattle.loop_values.specs.Loops.{loopPenalty, upTo, lengths, loopTable}
-use Rattle.pair_windows.specs.Windows.{windowsSum}
-use Rattle.energy_hundredths.specs.Hundredths.{stepsHundredths, endTerm}
+use Rattle.dna_bases.specs.Bases.{baseOf}
+use Rattle.dna_letters.specs.Letters.{isLetter}
+use Rattle.dna_steps.specs.Steps.{noEnergy, stepOf, dgDs}
+use Rattle.dna_mismatches.specs.Mismatches.{calcPenalty, penaltyTable}
+use Rattle.dna_loops.specs.Loops.{loopPenalty, upTo, lengths, loopTable}
+use Rattle.dna_pair_windows.specs.Windows.{windowsSum}
+use Rattle.dna_hundredths.specs.Hundredths.{stepsHundredths, endTerm}
 use Rattle.utils.specs.Starred.{Case, starred}
 
 pub starred-cases-hold : map (λ (c : Case). c .given) starred ≡ map (λ (c : Case). c .printed) starred

@@ -3,8 +3,8 @@ use Prim.Native.Nat.{ℕ}
 use mathlib.Core.List.{List}
 use Rattle.units.specs.declared.HundredthsAnswer.{HundredthsAnswer}
 use Rattle.units.specs.Answers.{hundredthsAnswer}
-use Rattle.energy_hundredths.specs.Hundredths.{singleHundredths}
-use Rattle.single_sequence.specs.Single.{singleVerdict}
+use Rattle.dna_hundredths.specs.Hundredths.{singleHundredths}
+use Rattle.dna_single.specs.Single.{singleVerdict}
 
 abbrev pub stringDnaHundredths : List ℕ → HundredthsAnswer
 stringDnaHundredths dna = hundredthsAnswer (singleVerdict dna) (singleHundredths dna)

@@ -6,7 +6,7 @@ use Rattle.units.specs.declared.BaseEnergyAnswer.{BaseEnergyAnswer}
 use Rattle.units.specs.declared.EnergyAnswer.{EnergyAnswer}
 use Rattle.units.specs.Answers.{baseEnergyAnswer, energyAnswer}
 use Rattle.units.specs.Kelvin.{energyAt}
-use Rattle.single_sequence.specs.Single.{singleEnergy, singleVerdict, singleAtVerdict}
+use Rattle.dna_single.specs.Single.{singleEnergy, singleVerdict, singleAtVerdict}
 
 abbrev pub stringDnaDgDs : List ℕ → BaseEnergyAnswer
 stringDnaDgDs dna = baseEnergyAnswer (singleVerdict dna) (singleEnergy dna)

@@ -9,11 +9,11 @@ use Rattle.units.specs.declared.HundredthsAnswer.{HundredthsAnswer}
 use Rattle.units.specs.Decimals.{plus}
 use Rattle.units.specs.Refusals.{passes, refuses}
 use Rattle.units.specs.Answers.{baseEnergyAnswer, hundredthsAnswer}
-use Rattle.bases.specs.Bases.{baseAt}
-use Rattle.step_values.specs.Steps.{noEnergy}
-use Rattle.mismatch_values.specs.Mismatches.{singleMismatchPenalty}
+use Rattle.dna_bases.specs.Bases.{baseAt}
+use Rattle.dna_steps.specs.Steps.{noEnergy}
+use Rattle.dna_mismatches.specs.Mismatches.{singleMismatchPenalty}
 use Rattle.utils.specs.Hundredths.{stringDnaHundredths}
-use Rattle.sequence_pairs.specs.Pair.{sequencePairDgDs}
+use Rattle.dna_pairs.specs.Pair.{sequencePairDgDs}
 
 -- what a case is about
 pub data Outcome : Type 0 where

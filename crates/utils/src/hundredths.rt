@@ -2,10 +2,10 @@
 ghost use mathlib.Core.Path.{_≡_};
 ghost use Rattle.units.specs.Refusals.{Prints};
 ghost use Rattle.units.specs.Answers.{hundredthsRefusal};
-ghost use Rattle.single_sequence.specs.Single.{singleVerdict};
+ghost use Rattle.dna_single.specs.Single.{singleVerdict};
 ghost use Rattle.utils.specs.Hundredths.{stringDnaHundredths};
-use energy_hundredths::single_hundredths;
-use single_sequence::check_single;
+use dna_hundredths::single_hundredths;
+use dna_single::check_single;
 use units::Check;
 use units::HundredthsAnswer;
 

@@ -2,11 +2,11 @@
 ghost use mathlib.Core.Path.{_≡_};
 ghost use Rattle.units.specs.Refusals.{Prints};
 ghost use Rattle.units.specs.Answers.{baseEnergyRefusal, energyRefusal};
-ghost use Rattle.single_sequence.specs.Single.{singleVerdict, singleAtVerdict};
+ghost use Rattle.dna_single.specs.Single.{singleVerdict, singleAtVerdict};
 ghost use Rattle.utils.specs.Single.{stringDnaDgDs, stringDnaDeltaG};
-use single_sequence::check_single;
-use single_sequence::check_single_at;
-use single_sequence::single_energy;
+use dna_single::check_single;
+use dna_single::check_single_at;
+use dna_single::single_energy;
 use units::BaseEnergyAnswer;
 use units::Check;
 use units::EnergyAnswer;

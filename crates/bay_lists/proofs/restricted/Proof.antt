@@ -10,8 +10,8 @@ use denote.Ref.{now}
 use borrow.Author.Needs.{needs}
 use borrow.Author.Needs.{scaled-fits}
 use borrow.Author.Tests.{not-true, not-false}
-use Rattle.entries.proofs.Bounds.{entry-starts, offset-within, length-part}
-use Rattle.entries.specs.Entries.{part}
+use Rattle.text_entries.proofs.Bounds.{entry-starts, offset-within, length-part}
+use Rattle.text_entries.specs.Entries.{part}
 use Rattle.bay_lists.proofs.Restricting.{ListShape, list-shape, kept-whole, kept-named}
 use Rattle.bay_lists.specs.Lists.{constraints, listOf}
 use Rattle.bay_lists.proofs.restricted.Statement.{statement}

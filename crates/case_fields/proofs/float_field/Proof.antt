@@ -1,6 +1,6 @@
 -- `case_fields::float_field` meets its contract. Assumes nothing.
 use mathlib.Core.Path.{ap, _∙_}
-use Rattle.case_numbers.specs.Digits.{floatOf}
+use Rattle.text_digits.specs.Digits.{floatOf}
 use borrow.Author.Needs.{needs}
 use Rattle.case_fields.proofs.float_field.Statement.{statement}
 use Rattle.case_fields.proofs.float_field.Tie as tie

@@ -1,7 +1,7 @@
 -- `case_fields::floats_field` meets its contract: the value of the field that was found, or nothing. Assumes nothing.
 use mathlib.Core.Path.{sym, _∙_}
 use lib.ListN.{length}
-use Rattle.case_numbers.specs.Digits.{isFloat, floatIn}
+use Rattle.text_digits.specs.Digits.{isFloat, floatIn}
 use Rattle.case_lists.specs.Lists.{items}
 use Rattle.case_fields.proofs.Found.{found-count, found-front, missing-count, missing-front}
 use borrow.Author.Needs.{needs}

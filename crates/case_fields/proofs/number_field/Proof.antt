@@ -1,7 +1,7 @@
 -- `case_fields::number_field` meets its contract. Assumes nothing.
 use Prim.Native.Nat.{_^_}
 use mathlib.Core.Path.{ap, _∙_}
-use Rattle.case_numbers.specs.Digits.{numberOf}
+use Rattle.text_digits.specs.Digits.{numberOf}
 use borrow.Author.Needs.{needs}
 use Rattle.case_fields.proofs.number_field.Statement.{statement}
 use Rattle.case_fields.proofs.number_field.Tie as tie

@@ -7,8 +7,8 @@ use lib.Dec.{eqb, leb}
 use lib.ListN.{length, getD}
 use denote.Ref.{now}
 use borrow.Author.Needs.{needs}
-use Rattle.bay_block.specs.declared.Bay.{Bay}
-use Rattle.row_choice.specs.Row.{strandsOf}
+use Rattle.ledger_block.specs.declared.Bay.{Bay}
+use Rattle.ledger_row_choice.specs.Row.{strandsOf}
 use Rattle.ledger_fill.specs.Bays.{leavingOf, bayOf}
 use Rattle.ledger_fill.proofs.bay_at.Statement.{statement}
 use Rattle.ledger_fill.proofs.bay_at.Tie as tie

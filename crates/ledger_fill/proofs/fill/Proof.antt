@@ -4,8 +4,8 @@ use Prim.Native.Nat.{_+_, _-_, _*_, _≤_, _<_}
 use native.Mathlib.Omega.{arith}
 use lib.ListN.{length}
 use denote.Ref.{now}
-use Rattle.row_choice.specs.Row.{strandsOf}
-use Rattle.bay_block.specs.Block.{Writable}
+use Rattle.ledger_row_choice.specs.Row.{strandsOf}
+use Rattle.ledger_block.specs.Block.{Writable}
 use Rattle.ledger_fill.proofs.Filling.{Filling, filling-starts, energies-whole, notes-whole, fill-comes, bay-in, here-long, bay-writable, previous-some, filling-turns, filling-ends}
 use Rattle.ledger_fill.proofs.fill.Statement.{statement}
 use Rattle.ledger_fill.proofs.fill.Tie as tie

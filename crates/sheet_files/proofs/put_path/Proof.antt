@@ -1,6 +1,6 @@
 -- `sheet_files::put_path` meets its contract: three texts put one after the other are one. Assumes nothing.
 use mathlib.Core.List.{[], _∷_, append-assoc}
-use Rattle.answer_texts.proofs.Putting.{put-as, then-put}
+use Rattle.text_put.proofs.Putting.{put-as, then-put}
 use borrow.Author.Needs.{needs}
 use Rattle.sheet_files.proofs.put_path.Statement.{statement}
 use Rattle.sheet_files.proofs.put_path.Tie as tie

@@ -1,6 +1,6 @@
 -- `sheet_names::put_content` meets its contract. Assumes nothing.
 use native.Mathlib.Omega.{arith}
-use Rattle.answer_texts.proofs.Putting.{put-as}
+use Rattle.text_put.proofs.Putting.{put-as}
 use Rattle.sheet_fields.proofs.Bounds.{field-at-within}
 use Rattle.sheet_names.proofs.Filling.{content-at}
 use borrow.Author.Needs.{needs}

@@ -2,8 +2,8 @@
 use native.Mathlib.Omega.{arith}
 use lib.ListN.{length-set}
 use borrow.Author.Needs.{needs}
-use Rattle.answer_texts.proofs.Putting.{put-within}
-use Rattle.strand_names.specs.Names.{nullName}
+use Rattle.text_put.proofs.Putting.{put-within}
+use Rattle.name_strands.specs.Names.{nullName}
 use Rattle.sheet_records.specs.Tables.{columns}
 use Rattle.sheet_names.specs.Appended.{flagOf}
 use Rattle.sheet_names.proofs.Appending.{appended-offsets, appended-present}

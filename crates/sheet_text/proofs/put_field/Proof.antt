@@ -4,8 +4,8 @@ use mathlib.Core.List.{_++_}
 use mathlib.Core.Path.{ap}
 use native.Mathlib.Omega.{arith}
 use lib.ListN.{length, getD, drop}
-use Rattle.answer_texts.specs.Puts.{numberText}
-use Rattle.answer_texts.proofs.Putting.{put-as, Ending, ending-starts, ending-goes-on, ending-ends}
+use Rattle.text_put.specs.Puts.{numberText}
+use Rattle.text_put.proofs.Putting.{put-as, Ending, ending-starts, ending-goes-on, ending-ends}
 use Rattle.sheet_text.specs.Written.{gap, spaced}
 use Rattle.sheet_text.proofs.Parts.{field-next, field-end}
 use borrow.Author.Needs.{needs}

@@ -1,5 +1,5 @@
 -- `put_next` meets its contract: a space stands before each number but the first. Assumes nothing.
-use Rattle.answer_texts.proofs.Putting.{put-as, then-put}
+use Rattle.text_put.proofs.Putting.{put-as, then-put}
 use Rattle.sheet_text.proofs.Parts.{first-number, later-number}
 use borrow.Author.Needs.{needs}
 use Rattle.sheet_text.proofs.put_next.Statement.{statement}

@@ -3,7 +3,7 @@ use Prim.Native.Nat.{_+_}
 use mathlib.Core.Bool.{true}
 use native.Mathlib.Omega.{arith}
 use Rattle.bay_lists.specs.Lists.{constraints}
-use Rattle.answer_texts.proofs.Putting.{then-put}
+use Rattle.text_put.proofs.Putting.{then-put}
 use Rattle.sheet_text.proofs.Turns.{fewer-lists, Row, row-starts, row-goes-on, row-ends}
 use borrow.Author.Needs.{needs}
 use Rattle.sheet_text.proofs.put_record.Statement.{statement}

@@ -1,5 +1,5 @@
 -- `put_separator` meets its contract. Assumes nothing.
-use Rattle.answer_texts.proofs.Putting.{put-as}
+use Rattle.text_put.proofs.Putting.{put-as}
 use Rattle.sheet_text.proofs.Parts.{last-separator, comma-separator}
 use borrow.Author.Needs.{needs}
 use Rattle.sheet_text.proofs.put_separator.Statement.{statement}

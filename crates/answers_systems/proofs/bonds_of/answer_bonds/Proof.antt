@@ -1,8 +1,8 @@
 -- `answers_systems::bonds_of::answer_bonds` asks for the bonds of a system that passed its tests. Assumes nothing.
 use denote.Ref.{now}
 use Rattle.units.proofs.Verdicts.{passed}
-use Rattle.sdc2d.specs.System.{system, systemVerdict}
-use Rattle.sdc2d.proofs.Fine.{fine}
+use Rattle.bay_system.specs.System.{system, systemVerdict}
+use Rattle.bay_system.proofs.Fine.{fine}
 use Rattle.answers_systems.proofs.Fit.{bonded}
 use borrow.Author.Needs.{needs}
 use Rattle.answers_systems.proofs.bonds_of.answer_bonds.Statement.{statement}

@@ -3,7 +3,7 @@ use Prim.Native.Nat.{_-_}
 use mathlib.Core.Path.{_≡_}
 use native.Mathlib.Omega.{arith}
 use lib.ListN.{length}
-use Rattle.beta_energies.proofs.Squares.{square, own-glue}
+use Rattle.energy_bays.proofs.Squares.{square, own-glue}
 use borrow.Author.Needs.{needs}
 use Rattle.answers_systems.proofs.bonds_of.put_bay_row.Statement.{statement}
 use Rattle.answers_systems.proofs.bonds_of.put_bay_row.Tie as tie

@@ -6,7 +6,7 @@ use lib.ListN.{length, take, length-set}
 use denote.Ref.{now}
 use Rattle.bay_lists.specs.Lists.{constraints}
 use Rattle.ledger_rows.specs.Blocks.{tab}
-use Rattle.scan_tables.proofs.Written.{one-more, whole, none-yet}
+use Rattle.run_scan_tables.proofs.Written.{one-more, whole, none-yet}
 use Rattle.bay_reasons.specs.Reasons.{ruleAt}
 use Rattle.bay_marks.specs.Marks.{codeOf}
 use Rattle.bay_marks.proofs.strands.fill_codes.Statement.{statement}

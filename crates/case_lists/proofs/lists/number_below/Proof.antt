@@ -1,7 +1,7 @@
 -- `lists::number_below` meets its contract: the limit is one more test of what `number` reads. Assumes nothing.
 use mathlib.Core.Path.{sym, _∙_}
 use native.Mathlib.Omega.{arith}
-use Rattle.case_numbers.proofs.Worth.{below-none, below-of, below-over}
+use Rattle.text_digits.proofs.Worth.{below-none, below-of, below-over}
 use borrow.Author.Needs.{needs}
 use Rattle.case_lists.proofs.lists.number_below.Statement.{statement}
 use Rattle.case_lists.proofs.lists.number_below.Tie as tie

@@ -4,9 +4,9 @@ use mathlib.Core.Bool.{true}
 use mathlib.Core.Path.{_≡_, sym, _∙_}
 use native.Mathlib.Omega.{arith}
 use lib.ListN.{length, take, drop}
-use Rattle.case_numbers.specs.Digits.{worth, isNumber}
+use Rattle.text_digits.specs.Digits.{worth, isNumber}
 use Rattle.case_lists.proofs.Filling.{Listing, no-item-counts, no-item-fills, listing-starts, listing-stops, listing-goes-on, listing-ends, listing-is-full}
-use Rattle.case_numbers.proofs.Worth.{number-of, number-not, number-small}
+use Rattle.text_digits.proofs.Worth.{number-of, number-not, number-small}
 use borrow.Author.Needs.{needs}
 use Rattle.case_lists.proofs.lists.small_numbers_into.Statement.{statement}
 use Rattle.case_lists.proofs.lists.small_numbers_into.Tie as tie

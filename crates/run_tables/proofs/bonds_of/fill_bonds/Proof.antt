@@ -7,7 +7,7 @@ use denote.Ref.{now}
 use borrow.Author.Needs.{scaled-fits}
 use Rattle.ledger_rows.specs.Blocks.{tab}
 use Rattle.run_tables.specs.Tables.{pairEnergy}
-use Rattle.scan_tables.proofs.Written.{one-more, whole, none-yet}
+use Rattle.run_scan_tables.proofs.Written.{one-more, whole, none-yet}
 use Rattle.run_tables.proofs.bonds_of.fill_bonds.Statement.{statement}
 use Rattle.run_tables.proofs.bonds_of.fill_bonds.Tie as tie
 

@@ -7,11 +7,11 @@ use lib.Ieee.{Float}
 use lib.ListN.{length, take, length-set}
 use denote.Ref.{now}
 use borrow.Author.Needs.{scaled-fits}
-use Rattle.scan_order.specs.Scan.{bayAt}
-use Rattle.scan_order.proofs.Scanned.{bay-inside}
+use Rattle.bay_scan_order.specs.Scan.{bayAt}
+use Rattle.bay_scan_order.proofs.Scanned.{bay-inside}
 use Rattle.ledger_rows.specs.Blocks.{tab}
 use Rattle.run_tables.specs.Tables.{siteEnergy}
-use Rattle.scan_tables.proofs.Written.{one-more, none-yet}
+use Rattle.run_scan_tables.proofs.Written.{one-more, none-yet}
 use Rattle.run_tables.proofs.sites.fill_sites.Statement.{statement}
 use Rattle.run_tables.proofs.sites.fill_sites.Tie as tie
 

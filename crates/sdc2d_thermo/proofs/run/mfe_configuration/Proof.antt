@@ -5,14 +5,14 @@ use denote.Ref.{now}
 use borrow.Author.Needs.{needs}
 use Rattle.units.specs.Refusals.{Verdict, passes, _▷_}
 use Rattle.units.proofs.Verdicts.{passed, refused-first}
-use Rattle.sdc2d.specs.System.{System, system, systemVerdict}
-use Rattle.sdc2d.proofs.Fine.{fine}
+use Rattle.bay_system.specs.System.{System, system, systemVerdict}
+use Rattle.bay_system.proofs.Fine.{fine}
 use Rattle.bay_lists.specs.Lists.{Constraints, constraints}
-use Rattle.legal.specs.Sets.{setsOf, shapeVerdict, emptyVerdict}
-use Rattle.least_layout.specs.Run.{systemScan, runNeed}
+use Rattle.bay_legal.specs.Sets.{setsOf, shapeVerdict, emptyVerdict}
+use Rattle.run_least_layout.specs.Run.{systemScan, runNeed}
 use Rattle.sdc2d_thermo.specs.Run.{earlyVerdict}
 use Rattle.run_room.specs.Room.{roomVerdict}
-use Rattle.sets_run.proofs.Finishing.{stop, past}
+use Rattle.run_sets.proofs.Finishing.{stop, past}
 use Rattle.sdc2d_thermo.proofs.Promised.{promised}
 use Rattle.sdc2d_thermo.proofs.run.mfe_configuration.Statement.{statement}
 use Rattle.sdc2d_thermo.proofs.run.mfe_configuration.Tie as tie

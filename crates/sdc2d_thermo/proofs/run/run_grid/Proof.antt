@@ -7,15 +7,15 @@ use denote.Ref.{now}
 use borrow.Author.Needs.{needs}
 use Rattle.units.specs.Refusals.{Verdict, _▷_, check}
 use Rattle.units.proofs.Verdicts.{passed, refused-first}
-use Rattle.sdc2d.specs.System.{System, system}
+use Rattle.bay_system.specs.System.{System, system}
 use Rattle.bay_lists.specs.Lists.{Constraints, constraints}
-use Rattle.legal_at.specs.Legal.{isLegal}
-use Rattle.legal.specs.Sets.{setsOf, emptyVerdict}
+use Rattle.bay_legal_at.specs.Legal.{isLegal}
+use Rattle.bay_legal.specs.Sets.{setsOf, emptyVerdict}
 use Rattle.run_room.specs.Room.{roomVerdict}
-use Rattle.least_layout.specs.Run.{systemScan, runNeed}
-use Rattle.sets_run.specs.Finished.{FinishedScan}
-use Rattle.sets_run.proofs.Finishing.{stop, past}
-use Rattle.sets_run.proofs.Grids.{asks, board, stock, tables-read, in-scan, own-room, own-filled, empty-is}
+use Rattle.run_least_layout.specs.Run.{systemScan, runNeed}
+use Rattle.run_sets.specs.Finished.{FinishedScan}
+use Rattle.run_sets.proofs.Finishing.{stop, past}
+use Rattle.run_sets.proofs.Grids.{asks, board, stock, tables-read, in-scan, own-room, own-filled, empty-is}
 use Rattle.sdc2d_thermo.proofs.run.run_grid.Statement.{statement}
 use Rattle.sdc2d_thermo.proofs.run.run_grid.Tie as tie
 

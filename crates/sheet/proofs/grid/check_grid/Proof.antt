@@ -1,6 +1,6 @@
 -- `grid::check_grid` meets its contract. Assumes nothing.
 use mathlib.Core.Path.{sym, _∙_}
-use Rattle.case_numbers.proofs.Worth.{and-false}
+use Rattle.text_digits.proofs.Worth.{and-false}
 use borrow.Author.Needs.{needs}
 use Rattle.sheet.proofs.grid.check_grid.Statement.{statement}
 use Rattle.sheet.proofs.grid.check_grid.Tie as tie

@@ -10,8 +10,8 @@ use Rattle.units.proofs.Verdicts.{passed}
 use Rattle.units.specs.Refusals.{passes}
 use Rattle.units.specs.declared.HundredthsAnswer.the-variants.{Hundredths}
 use Rattle.utils.proofs.Refused.{single-tabled, single-short, single-long}
-use Rattle.energy_hundredths.specs.Hundredths.{singleHundredths}
-use Rattle.single_sequence.specs.Single.{singleVerdict}
+use Rattle.dna_hundredths.specs.Hundredths.{singleHundredths}
+use Rattle.dna_single.specs.Single.{singleVerdict}
 use Rattle.utils.proofs.hundredths.string_dna_hundredths.Statement.{statement}
 use Rattle.utils.proofs.hundredths.string_dna_hundredths.Tie as tie
 

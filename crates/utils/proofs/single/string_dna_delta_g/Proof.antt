@@ -7,7 +7,7 @@ use Rattle.units.proofs.Verdicts.{passed}
 use Rattle.units.specs.Kelvin.{energyAt}
 use Rattle.units.specs.declared.EnergyAnswer.the-variants.{Energy}
 use Rattle.utils.proofs.Refused.{single-at-tabled}
-use Rattle.single_sequence.specs.Single.{singleAtVerdict, singleEnergy}
+use Rattle.dna_single.specs.Single.{singleAtVerdict, singleEnergy}
 use Rattle.utils.proofs.single.string_dna_delta_g.Statement.{statement}
 use Rattle.utils.proofs.single.string_dna_delta_g.Tie as tie
 

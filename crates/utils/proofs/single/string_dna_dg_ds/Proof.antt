@@ -6,7 +6,7 @@ use Rattle.units.proofs.Answers.{base-energy, refused, given}
 use Rattle.units.proofs.Verdicts.{passed}
 use Rattle.units.specs.declared.BaseEnergyAnswer.the-variants.{Found}
 use Rattle.utils.proofs.Refused.{single-tabled}
-use Rattle.single_sequence.specs.Single.{singleVerdict, singleEnergy}
+use Rattle.dna_single.specs.Single.{singleVerdict, singleEnergy}
 use Rattle.utils.proofs.single.string_dna_dg_ds.Statement.{statement}
 use Rattle.utils.proofs.single.string_dna_dg_ds.Tie as tie
 

@@ -1,0 +1,158 @@
+// Seeds that are given by name.
+ghost use mathlib.Core.Path.{_≡_};
+ghost use lib.ListN.{length, take, drop};
+ghost use Rattle.units.specs.Refusals.{check, Prints};
+ghost use Rattle.name_strands.specs.Names.{names, Readable};
+ghost use Rattle.name_seed_sizes.specs.Sizes.{seedList, seedCount, SeedsReadable};
+ghost use Rattle.name_seeds.specs.Seeds.{seedsVerdict, seedsAfter, seedTriples};
+ghost use mathlib.Core.List.{_∷_, _++_};
+ghost use Prim.Native.Nat.{_<_, ℕ, _+_, _*_, _≤_};
+ghost use Rattle.name_seed_checks.specs.Each.{seedRow, seedCol};
+use name_seed_checks::check_seeds;
+use name_seed_checks::refused;
+use name_seed_sizes::all_read;
+use name_seed_sizes::all_sized;
+use name_seed_strands::seed_strand;
+use units::Check;
+
+// Triple k of the table.
+fn put_seed(seeds: &mut [u32], k: usize, row: u32, col: u32, strand: u32)
+    requires { ⌜ 3 * k + 3 ≤ length (now seeds) ⌝ }
+    ensures { λ _. ⌜ now (seeds .exit) ≡ take (3 * k) (now (seeds .entry)) ++ row ∷ col ∷ strand ∷ drop (3 * k + 3) (now (seeds .entry)) ⌝ }
+{
+    seeds[3 * k] = row;
+    seeds[3 * k + 1] = col;
+    seeds[3 * k + 2] = strand;
+}
+
+// The triples of all seeds. Where the tests passed each row and column is below 32.
+fn fill_seeds(
+    text: &[u8],
+    offsets: &[usize],
+    present: &[u8],
+    numerals: &[u8],
+    places: &[usize],
+    seed_text: &[u8],
+    seed_offsets: &[usize],
+    seeds: &mut [u32],
+)
+    requires { ⌜ Readable (names (now text) (now offsets) (now present) (now numerals)) ⌝ }
+    requires { ⌜ SeedsReadable (seedList (now places) (now «seed_text») (now «seed_offsets»)) ⌝ }
+    requires { let s = seedList (now places) (now «seed_text») (now «seed_offsets») in
+        ⌜ ((k : ℕ) → k < seedCount s → (seedRow s k < 32) × (seedCol s k < 32)) ⌝ }
+    requires { ⌜ length (now seeds) ≡ 3 * seedCount (seedList (now places) (now «seed_text») (now «seed_offsets»)) ⌝ }
+    ensures { λ _. let n = names (now (text .entry)) (now (offsets .entry)) (now (present .entry)) (now (numerals .entry)) in
+        let s = seedList (now (places .entry)) (now («seed_text» .entry)) (now («seed_offsets» .entry)) in
+        ⌜ now (seeds .exit) ≡ seedTriples n s (seedCount s) ⌝ }
+{
+    let mut k = 0;
+    while k < places.len() / 2 {
+        let row = places[2 * k] as u32;
+        let col = places[2 * k + 1] as u32;
+        let strand = seed_strand(text, offsets, present, numerals, seed_text, seed_offsets, k);
+        put_seed(seeds, k, row, col, strand as u32);
+        k += 1;
+    }
+}
+
+// All of 1, then all of 17, then seed by seed.
+fn check_named_seeds(
+    rows: usize,
+    cols: usize,
+    strands: usize,
+    text: &[u8],
+    offsets: &[usize],
+    present: &[u8],
+    numerals: &[u8],
+    places: &[usize],
+    seed_text: &[u8],
+    seed_offsets: &[usize],
+    table: usize,
+) -> Check
+    ensures { λ r. let n = names (now (text .entry)) (now (offsets .entry)) (now (present .entry)) (now (numerals .entry)) in
+        let s = seedList (now (places .entry)) (now («seed_text» .entry)) (now («seed_offsets» .entry)) in
+        ⌜ r ≡ check (seedsVerdict rows cols strands n s table) ⌝ }
+{
+    if !all_sized(
+        rows,
+        cols,
+        strands,
+        text,
+        offsets,
+        present,
+        places,
+        seed_text,
+        seed_offsets,
+        table,
+    ) {
+        return refused(1, 0);
+    }
+    if !all_read(text, offsets, present, numerals, seed_text, seed_offsets) {
+        return refused(17, 0);
+    }
+    check_seeds(
+        rows,
+        cols,
+        text,
+        offsets,
+        present,
+        numerals,
+        places,
+        seed_text,
+        seed_offsets,
+    )
+}
+
+// Seeds as triples row, column, strand, each strand being the first tile whose shown name is the seed's.
+pub fn seeds_by_name(
+    rows: usize,
+    cols: usize,
+    strands: usize,
+    text: &[u8],
+    offsets: &[usize],
+    present: &[u8],
+    numerals: &[u8],
+    places: &[usize],
+    seed_text: &[u8],
+    seed_offsets: &[usize],
+    seeds: &mut [u32],
+) -> Check
+    ensures refusal { λ r. let n = names (now (text .entry)) (now (offsets .entry)) (now (present .entry)) (now (numerals .entry)) in
+        let s = seedList (now (places .entry)) (now («seed_text» .entry)) (now («seed_offsets» .entry)) in
+        ⌜ Prints r (seedsVerdict rows cols strands n s (length (now (seeds .entry)))) ⌝ }
+    ensures answer { λ r. let n = names (now (text .entry)) (now (offsets .entry)) (now (present .entry)) (now (numerals .entry)) in
+        let s = seedList (now (places .entry)) (now («seed_text» .entry)) (now («seed_offsets» .entry)) in
+        ⌜ r ≡ check (seedsVerdict rows cols strands n s (length (now (seeds .entry)))) ⌝ }
+    ensures table { λ r. let n = names (now (text .entry)) (now (offsets .entry)) (now (present .entry)) (now (numerals .entry)) in
+        let s = seedList (now (places .entry)) (now («seed_text» .entry)) (now («seed_offsets» .entry)) in
+        ⌜ now (seeds .exit) ≡ seedsAfter rows cols strands n s (now (seeds .entry)) ⌝ }
+{
+    match check_named_seeds(
+        rows,
+        cols,
+        strands,
+        text,
+        offsets,
+        present,
+        numerals,
+        places,
+        seed_text,
+        seed_offsets,
+        seeds.len(),
+    ) {
+        Check::Refused(r) => Check::Refused(r),
+        Check::Passed => {
+            fill_seeds(
+                text,
+                offsets,
+                present,
+                numerals,
+                places,
+                seed_text,
+                seed_offsets,
+                seeds,
+            );
+            Check::Passed
+        }
+    }
+}

@@ -1,0 +1,45 @@
+-- What stands before and after the bays in a drawing: its size, the look of its parts, the energy, and what the marks mean. Assumes nothing.
+use Prim.Native.Nat.{ℕ}
+use mathlib.Core.List.{List, _++_}
+use lib.Ieee.{Float}
+use Rattle.text_put.specs.Puts.{numberText}
+use Rattle.text_energy.specs.Hundredths.{energyText}
+use Rattle.plan_xml_text.specs.Words.{bytes}
+
+-- two numbers with a text between them
+abbrev pub twoNumbers : ℕ → List ℕ → ℕ → List ℕ
+twoNumbers a between b = numberText a ++ between ++ numberText b
+
+-- the tag that opens a drawing of so many pixels
+abbrev pub opening : (width height : ℕ) → List ℕ
+opening width height =
+    bytes "<svg xmlns=\"http://www.w3.org/2000/svg\" width=\"" ++ twoNumbers width (bytes "\" height=\"") height
+    ++ bytes "\" viewBox=\"0 0 " ++ twoNumbers width (bytes " ") height ++ bytes "\">\n"
+
+-- how letters look
+abbrev pub letterStyle : List ℕ
+letterStyle =
+    bytes "<style>\ntext{font-family:sans-serif;fill:#1d2733}\n"
+    ++ bytes ".energy{font-size:18px;font-weight:bold}\n.key{font-size:14px}\n.name{text-anchor:middle}\n"
+
+-- how squares look: filled where they hold a tile, with a border by their mark; and a white ground
+abbrev pub squareStyle : List ℕ
+squareStyle =
+    bytes "rect{fill:#fff;stroke:#b4bcc8}\n.tile{fill:#e6eef8}\n.ground{stroke:none}\n"
+    ++ bytes ".restricted{stroke:#b45309;stroke-width:2;stroke-dasharray:7 4}\n.seed{stroke:#1e3a6e;stroke-width:5}\n"
+    ++ bytes "</style>\n<rect class=\"ground\" width=\"100%\" height=\"100%\"/>\n"
+
+-- the energy, above the bays
+abbrev pub title : Float → List ℕ
+title energy = bytes "<text class=\"energy\" x=\"24\" y=\"40\">Energy " ++ energyText energy ++ bytes " kcal/mol</text>\n"
+
+abbrev pub head : (width height : ℕ) → Float → List ℕ
+head width height energy = opening width height ++ letterStyle ++ squareStyle ++ title energy
+
+-- what the marks mean, from so many pixels down, and the end
+abbrev pub foot : (top : ℕ) → List ℕ
+foot top =
+    bytes "<g transform=\"translate(26," ++ numberText top ++ bytes ")\">\n"
+    ++ bytes "<rect class=\"seed\" width=\"20\" height=\"20\"/><text class=\"key\" x=\"30\" y=\"15\">seed</text>\n"
+    ++ bytes "<rect class=\"restricted\" x=\"86\" width=\"20\" height=\"20\"/><text class=\"key\" x=\"116\" y=\"15\">restricted</text>\n"
+    ++ bytes "</g>\n</svg>\n"

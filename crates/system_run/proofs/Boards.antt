@@ -1,8 +1,0 @@
--- Counts on a board. Assumes nothing.
-use Prim.Native.Nat.{ℕ, _≤_}
-use native.Mathlib.Nat.{mul-le-mul}
-use native.Mathlib.Omega.{arith}
-use Rattle.system_run.specs.Steps.{OnBoard}
-
-pub few-bays : {rows cols scan lent : ℕ} → OnBoard rows cols scan lent → scan ≤ 1024
-few-bays on = omega (arith, on .scanned, mul-le-mul (on .few-rows) (on .few-cols))

@@ -1,0 +1,88 @@
+-- The turns of the two loops over a decimal's bytes: up to the point, and over digits. Assumes nothing.
+use Prim.Native.Nat.{ℕ, _+_, _*_, _^_, _≤_, _<_}
+use mathlib.Core.Path.{_≡_, refl, sym, _∙_}
+use mathlib.Core.Bool.{true, false, _&&_}
+use mathlib.Core.List.{List}
+use native.Mathlib.Nat.{add-zero, add-suc, zero-add, suc-add}
+use native.Mathlib.Numerals.{add-one}
+use native.Mathlib.Omega.{arith}
+use borrow.Author.Tests.{eq-eqb, ne-eqb, lt-ltb, le-ltb}
+use lib.Dec.{ltb, lit<}
+use lib.ListN.{length, getD, drop, drop-of-length-le}
+use lib.Seq.{drop-cons}
+use Rattle.text_digits.specs.Digits.{digit, allDigits, worth}
+use Rattle.text_digits.specs.declared.kinds.Number.{Number}
+use Rattle.text_digits.proofs.Worth.{and-false, worth-grows}
+use Rattle.text_decimals.specs.Decimals.{wholeLength, areFew, digitsAfter}
+
+-- ---- up to the point
+
+-- no point stands before the place
+pub record NoPointBefore (text : List ℕ) (i : ℕ) : Type 0 where
+  pub so-far : wholeLength text ≡ i + wholeLength (drop i text)
+
+pub at-the-start : (text : List ℕ) → NoPointBefore text 0
+at-the-start text = record { so-far = sym (zero-add (wholeLength text)) }
+
+module _ (text : List ℕ) (i : ℕ) (s : NoPointBefore text i) where
+  pub no-point : length text ≤ i → i ≡ wholeLength text
+  unfolding wholeLength
+  no-point h = sym (s .so-far ∙ rw (drop-of-length-le text h) (add-zero i))
+
+  module _ (h : i < length text) where
+    pub at-the-point : getD text i 0 ≡ 46 → i ≡ wholeLength text
+    unfolding wholeLength
+    at-the-point e = sym (s .so-far ∙ rw (drop-cons text i 0 h, eq-eqb (getD text i 0) 46 e) (add-zero i))
+
+    pub past-a-digit : (getD text i 0 ≡ 46 → ⊥) → NoPointBefore text (i + 1)
+    unfolding wholeLength
+    past-a-digit n = record { so-far = s .so-far ∙ one-on }
+      where
+        one-on : i + wholeLength (drop i text) ≡ i + 1 + wholeLength (drop (i + 1) text)
+        one-on = rw (drop-cons text i 0 h, ne-eqb (getD text i 0) 46 n, add-one, add-suc, suc-add) refl
+
+-- ---- over digits
+
+-- the digits before the place are worth w after others worth n, which is less than 10^15
+pub record Read (n : ℕ) (digits : List ℕ) (w i : ℕ) : Type 0 where
+  pub all : allDigits 10 (drop i digits) ≡ allDigits 10 digits
+  pub sum : worth 10 w (drop i digits) ≡ worth 10 n digits
+  pub few : w < 10 ^ 15
+
+pub read-starts : (n : ℕ) (digits : List ℕ) → n < 10 ^ 15 → Read n digits n 0
+read-starts n digits h = record { all = refl; sum = refl; few = h }
+
+module _ (n : ℕ) (digits : List ℕ) (w i : ℕ) (s : Read n digits w i) where
+  pub read-ends : length digits ≤ i → Number.Of w ≡ digitsAfter n digits
+  unfolding digitsAfter areFew allDigits worth
+  read-ends h =
+      let none = drop-of-length-le digits h in
+      let all : allDigits 10 digits ≡ true = sym (s .all) ∙ rw none refl in
+      let sum : worth 10 n digits ≡ w = sym (s .sum) ∙ rw none refl in
+      rw (all, sum, lt-ltb w (10 ^ 15) (s .few))
+
+  module _ (d : ℕ) (h : i < length digits) (e : d ≡ digit (getD digits i 0)) where
+    all-here : allDigits 10 (drop i digits) ≡ ltb d 10 && allDigits 10 (drop (i + 1) digits)
+    unfolding allDigits
+    all-here = rw (drop-cons digits i 0 h, e, add-one)
+
+    sum-here : worth 10 w (drop i digits) ≡ worth 10 (w * 10 + d) (drop (i + 1) digits)
+    unfolding worth
+    sum-here = rw (drop-cons digits i 0 h, e, add-one)
+
+    pub read-stops : 10 ≤ d → Number.Unreadable ≡ digitsAfter n digits
+    unfolding digitsAfter areFew
+    read-stops k =
+        let some : allDigits 10 digits ≡ false = sym (s .all) ∙ all-here ∙ rw (le-ltb d 10 k) refl in
+        rw some
+
+    pub read-passes : 10 ^ 15 ≤ w * 10 + d → Number.Unreadable ≡ digitsAfter n digits
+    unfolding digitsAfter areFew
+    read-passes k =
+        let more = worth-grows 10 (lit< tt) (w * 10 + d) (drop (i + 1) digits) in
+        let same = sym (s .sum) ∙ sum-here in
+        let past : 10 ^ 15 ≤ worth 10 n digits = omega arith in
+        rw (le-ltb (worth 10 n digits) (10 ^ 15) past, and-false)
+
+    pub read-goes-on : d < 10 → w * 10 + d < 10 ^ 15 → Read n digits (w * 10 + d) (i + 1)
+    read-goes-on k f = record { all = sym (all-here ∙ rw (lt-ltb d 10 k) refl) ∙ s .all; sum = sym sum-here ∙ s .sum; few = f }

@@ -1,0 +1,76 @@
+// What every answer is made of: a text, a number and a float, put into a lent slice.
+//
+// Each function puts a text at the place `at`, leaves the rest of the slice as it is, and answers the next place.
+// What does not fit is cut off, and the next place is then the slice's end: a run of these calls leaves the answer, or as much
+// of its front as has room.
+ghost use mathlib.Core.Path.{_≡_};
+ghost use Prim.Native.Nat.{min};
+ghost use lib.IntN.{natAbs};
+ghost use Rattle.text_put.specs.Puts.{Put, numberText, signedText, floatText};
+
+// Puts the bytes of `text`.
+pub fn put_text(out: &mut [u8], at: usize, text: &[u8]) -> usize
+    ensures { λ r. ⌜ Put (now (out .entry)) at (now (text .entry)) r (now (out .exit)) ⌝ }
+{
+    if out.len() <= at {
+        return out.len();
+    }
+    let room = least(text.len(), out.len() - at);
+    let mut i = 0;
+    while i < room {
+        out[at + i] = text[i];
+        i += 1;
+    }
+    at + room
+}
+
+// Puts the decimal digits of `n`.
+pub fn put_number(out: &mut [u8], at: usize, n: u64) -> usize
+    ensures { λ r. ⌜ Put (now (out .entry)) at (numberText n) r (now (out .exit)) ⌝ }
+{
+    let mut digits = [0u8; 20];
+    let k = io::decimal(n, &mut digits);
+    put_text(out, at, &digits[..k])
+}
+
+// Puts the decimal digits of `n`, with `-` in front where it is negative.
+pub fn put_signed(out: &mut [u8], at: usize, n: i32) -> usize
+    ensures { λ r. ⌜ Put (now (out .entry)) at (signedText n) r (now (out .exit)) ⌝ }
+{
+    if n < 0 {
+        let next = put_text(out, at, b"-");
+        put_number(out, next, size(n))
+    } else {
+        put_number(out, at, size(n))
+    }
+}
+
+// Puts the 16 hexadecimal digits of the bits of `x`, or `nan`.
+pub fn put_float(out: &mut [u8], at: usize, x: f64) -> usize
+    ensures { λ r. ⌜ Put (now (out .entry)) at (floatText x) r (now (out .exit)) ⌝ }
+{
+    if x != x {
+        return put_text(out, at, b"nan");
+    }
+    let mut digits = [0u8; 16];
+    let k = io::hex(f64::to_bits(x), 16, &mut digits);
+    put_text(out, at, &digits[..k])
+}
+
+// How far `n` is from 0.
+fn size(n: i32) -> u64
+    ensures { λ r. ⌜ r ≡ natAbs n ⌝ }
+{
+    let wide = n as i64;
+    if wide < 0 {
+        (0 - wide) as u64
+    } else {
+        wide as u64
+    }
+}
+
+fn least(a: usize, b: usize) -> usize
+    ensures { λ r. ⌜ r ≡ min a b ⌝ }
+{
+    if a < b { a } else { b }
+}
