@@ -1,17 +1,14 @@
 -- From the bytes of a sheet to the sets of its bays: a field `0` keeps its bay empty, a field without content restricts nothing. Assumes nothing.
 use Prim.Native.Nat.{ℕ, zero, suc, _*_, _≤_, _<_}
 use mathlib.Core.Path.{_≡_, refl, sym, _∙_, ap, ap₂}
-use mathlib.Core.Bool.{true, false, not, _&&_}
+use mathlib.Core.Bool.{true, false}
 use mathlib.Core.List.{List, [], _∷_, _++_}
 use native.Mathlib.Omega.{arith}
 use lib.ListN.{length, getD, take}
-use lib.Dec.{leb}
-use borrow.Author.Tests.{leb-true, not-false}
-use Rattle.text_entries.proofs.Same.{both}
-use Rattle.units.specs.Kelvin.{inKelvinRange}
 use Rattle.units.specs.Refusals.{Verdict, passes, _▷_, ifPasses}
-use Rattle.units.proofs.Verdicts.{first-passes, no-fault}
-use Rattle.bay_system.specs.System.{System, inRange, sizesFit, lengthsFit, sizesVerdict, gluesVerdict, energiesVerdict, seedsVerdict, systemVerdict}
+use Rattle.units.proofs.Verdicts.{first-passes}
+use Rattle.bay_system.proofs.Ranges.{shaped}
+use Rattle.bay_system.specs.System.{System, sizesVerdict, gluesVerdict, energiesVerdict, seedsVerdict, systemVerdict}
 use Rattle.bay_lists.specs.Lists.{Constraints, constraints, listOf, offsetsShaped}
 use Rattle.bay_legal_at.specs.declared.seeds.Seed.the-variants.{Unseeded}
 use Rattle.bay_legal_at.specs.Legal.{seedAt, isLegal, setAt}
@@ -142,11 +139,7 @@ module _ (s : System) (text : List ℕ) (bay : ℕ) (inside : bay < bays (s .siz
           let glues-on = gluesVerdict (z .glues) (s .strandGlues) (s .scaffold) ▷ energiesVerdict (s .deltaG) (s .entropy) (s .logs) ▷ seedsVerdict z (s .seeds) in
           let sets-on = shapeVerdict z (length sets) left ▷ emptyVerdict (z .rows) (z .cols) (setsOf s left) in
           let sizes = first-passes (sizesVerdict s) glues-on (first-passes (systemVerdict s) sets-on found) in
-          let fit = both (sizesFit z) (lengthsFit s) (not-false (sizesFit z && lengthsFit s) (no-fault (not (sizesFit z && lengthsFit s)) 1 [] sizes)) .0 in
-          let others = inRange (z .glues) 256 && inKelvinRange (z .kelvin) in
-          let past-rows = both (inRange (z .rows) 32) (inRange (z .cols) 32 && (inRange (z .strands) 64 && others)) fit .1 in
-          let past-cols = both (inRange (z .cols) 32) (inRange (z .strands) 64 && others) past-rows .1 in
-          leb-true 1 (z .strands) (both (leb 1 (z .strands)) (leb (z .strands) 64) (both (inRange (z .strands) 64) others past-cols .0) .0)
+          shaped s sizes .sizes .some-strands
 
       pub sheet-keeps-empty : seedAt columns (s .seeds) bay ≡ Unseeded → bayContent rows columns text bay ≡ 48 ∷ [] → getD (setsAfter s left sets) bay 0 ≡ 1
       sheet-keeps-empty unseeded e = set-left ∙ ap (λ (c : Constraints). setAt s c bay) left-is ∙ field-0-keeps-empty some-strand unseeded e
