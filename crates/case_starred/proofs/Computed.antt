@@ -13,7 +13,7 @@ use Rattle.dna_mismatches.specs.Mismatches.{calcPenalty, penaltyTable}
 use Rattle.dna_loops.specs.Loops.{loopPenalty, upTo, lengths, loopTable}
 use Rattle.dna_pair_windows.specs.Windows.{windowsSum}
 use Rattle.dna_hundredths.specs.Hundredths.{stepsHundredths, endTerm}
-use Rattle.utils.specs.Starred.{starred as Sequences·starred}
+use Rattle.dna_calls.specs.Starred.{starred as Sequences·starred}
 use Rattle.sets.specs.Set.{has, word, members}
 use Rattle.text_entries.specs.Entries.{offsetsFrom}
 use Rattle.bay_system.specs.System.{isLog, firstBadSeed}

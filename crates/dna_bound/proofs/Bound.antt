@@ -23,10 +23,10 @@ use Rattle.dna_steps.specs.Published.{publishedStartDg}
 use Rattle.dna_steps.proofs.StepTables.{step-at-most}
 use Rattle.dna_steps.proofs.Published.{as-published}
 use Rattle.dna_single.specs.Single.{stepsSum, singleEnergy, singleVerdict}
-use Rattle.utils.specs.Single.{stringDnaDgDs}
-use Rattle.utils.proofs.Refused.{single-short}
-use Rattle.utils.proofs.string_dna_dg_ds.Kinds as kinds
-use Rattle.utils.proofs.string_dna_dg_ds.Reads as reads
+use Rattle.dna_calls.specs.Single.{stringDnaDgDs}
+use Rattle.dna_calls.proofs.Refused.{single-short}
+use Rattle.dna_calls.proofs.string_dna_dg_ds.Kinds as kinds
+use Rattle.dna_calls.proofs.string_dna_dg_ds.Reads as reads
 use Rattle.dna_published.specs.PublishedSums.{publishedDg, wholeTo}
 use Rattle.dna_bound.specs.Bound.{DeltaGBound}
 use Rattle.dna_bound.proofs.Sums.{Running, all-close}

@@ -24,12 +24,12 @@ use Rattle.dna_steps.specs.Published.{recorded}
 use Rattle.dna_steps.proofs.Published.{as-published}
 use Rattle.dna_hundredths.specs.Hundredths.{stepsHundredths, singleHundredths, endTerm}
 use Rattle.dna_single.specs.Single.{stepsSum, singleEnergy, singleVerdict}
-use Rattle.utils.specs.Single.{stringDnaDgDs}
-use Rattle.utils.specs.Hundredths.{stringDnaHundredths}
-use Rattle.utils.proofs.string_dna_dg_ds.Kinds as dg-ds-kinds
-use Rattle.utils.proofs.string_dna_dg_ds.Reads as dg-ds
-use Rattle.utils.proofs.string_dna_hundredths.Kinds as hundredths-kinds
-use Rattle.utils.proofs.string_dna_hundredths.Reads as hundredths
+use Rattle.dna_calls.specs.Single.{stringDnaDgDs}
+use Rattle.dna_calls.specs.Hundredths.{stringDnaHundredths}
+use Rattle.dna_calls.proofs.string_dna_dg_ds.Kinds as dg-ds-kinds
+use Rattle.dna_calls.proofs.string_dna_dg_ds.Reads as dg-ds
+use Rattle.dna_calls.proofs.string_dna_hundredths.Kinds as hundredths-kinds
+use Rattle.dna_calls.proofs.string_dna_hundredths.Reads as hundredths
 use Rattle.dna_published.specs.PublishedSums.{publishedDg, publishedDs, portedDs, onRecord, wholeTo, roundedTo, rounded, entropy, PublishedSums}
 
 -- the code's sum, ΔG and ΔS, in the words of the statement
