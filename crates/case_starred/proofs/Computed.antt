@@ -6,7 +6,7 @@ use Rattle.units.specs.Decimals.{decimal}
 use Rattle.units.specs.Finite.{finite}
 use Rattle.units.specs.Kelvin.{gasConstant}
 use Rattle.units.specs.Places.{firstFailing}
-use Rattle.dna_bases.specs.Bases.{baseOf}
+use Rattle.dna_letters.specs.Bases.{baseOf}
 use Rattle.dna_letters.specs.Letters.{isLetter}
 use Rattle.dna_steps.specs.Steps.{noEnergy as Steps·noEnergy, stepOf, dgDs}
 use Rattle.dna_mismatches.specs.Mismatches.{calcPenalty, penaltyTable}

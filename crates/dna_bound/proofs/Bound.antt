@@ -16,8 +16,8 @@ use Rattle.units.specs.declared.BaseEnergyAnswer.the-variants.{Found}
 use Rattle.units.specs.Refusals.{Verdict, passes, refuses}
 use Rattle.units.specs.Answers.{baseEnergyAnswer}
 use Rattle.units.specs.Decimals.{minus}
-use Rattle.dna_bases.specs.declared.DnaNucleotideBase.{DnaNucleotideBase}
-use Rattle.dna_bases.specs.Bases.{baseAt}
+use Rattle.dna_letters.specs.declared.DnaNucleotideBase.{DnaNucleotideBase}
+use Rattle.dna_letters.specs.Bases.{baseAt}
 use Rattle.dna_steps.specs.Steps.{dgDs, start, noEnergy}
 use Rattle.dna_steps.specs.Published.{publishedStartDg}
 use Rattle.dna_steps.proofs.StepTables.{step-at-most}

@@ -4,7 +4,7 @@ use mathlib.Core.List.{map}
 use lib.Ieee.{ofBits, add}
 use Rattle.units.specs.Decimals.{decimal}
 use Rattle.units.specs.Places.{firstFailing}
-use Rattle.dna_bases.specs.Bases.{baseOf}
+use Rattle.dna_letters.specs.Bases.{baseOf}
 use Rattle.dna_letters.specs.Letters.{isLetter}
 use Rattle.dna_steps.specs.Steps.{noEnergy, stepOf, dgDs}
 use Rattle.dna_mismatches.specs.Mismatches.{calcPenalty, penaltyTable}

@@ -1,13 +1,13 @@
 -- A single mismatch: its penalty, and the table of penalties. Assumes nothing.
-use Prim.Native.Nat.{ℕ, suc, _+_, _*_}
+use Prim.Native.Nat.{ℕ, suc}
 use mathlib.Core.Bool.{cond}
 use mathlib.Core.List.{List, [], _∷_}
 use lib.IntN.{ℤ, pos, negsuc, negℤ}
 use lib.Ieee.{Float}
 use lib.ListN.{getD}
 use Rattle.units.specs.Decimals.{plus, minus}
-use Rattle.dna_bases.specs.declared.DnaNucleotideBase.{DnaNucleotideBase}
-use Rattle.dna_bases.specs.Bases.{indexOf, goodMatch}
+use Rattle.dna_letters.specs.declared.DnaNucleotideBase.{DnaNucleotideBase}
+use Rattle.dna_letters.specs.Bases.{indexOf, goodMatch}
 
 -- a number of hundredths, rounded once
 abbrev pub hundredths : ℤ → Float

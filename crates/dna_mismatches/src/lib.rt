@@ -1,8 +1,8 @@
 // The penalty of a window with a single mismatch.
 ghost use mathlib.Core.Path.{_≡_};
 ghost use Rattle.dna_mismatches.specs.Mismatches.{calcPenalty, singleMismatchPenalty};
-use dna_bases::DnaNucleotideBase;
-use dna_bases::good_match;
+use dna_letters::DnaNucleotideBase;
+use dna_letters::good_match;
 
 // For PX over (P*)Y, in kcal/mol: the block of P, the row of X, the place of Y, each in the order A, T, G, C, as in the Rust.
 pub const PENALTY_TABLE: [[[f64; 4]; 4]; 4] = [

@@ -17,8 +17,8 @@ use Rattle.units.specs.declared.HundredthsAnswer.the-variants.{Hundredths}
 use Rattle.units.specs.Answers.{baseEnergyAnswer, hundredthsAnswer}
 use Rattle.units.specs.Decimals.{minus}
 use Rattle.units.specs.Refusals.{Verdict, passes, refuses}
-use Rattle.dna_bases.specs.declared.DnaNucleotideBase.{DnaNucleotideBase}
-use Rattle.dna_bases.specs.Bases.{baseAt}
+use Rattle.dna_letters.specs.declared.DnaNucleotideBase.{DnaNucleotideBase}
+use Rattle.dna_letters.specs.Bases.{baseAt}
 use Rattle.dna_steps.specs.Steps.{noEnergy, dgDs, startHundredths, start}
 use Rattle.dna_steps.specs.Published.{recorded}
 use Rattle.dna_steps.proofs.Published.{as-published}

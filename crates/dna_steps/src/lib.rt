@@ -2,7 +2,7 @@
 ghost use mathlib.Core.Path.{_≡_};
 ghost use Prim.Native.Nat.{_≤_};
 ghost use Rattle.dna_steps.specs.Steps.{stepPlace, stepOf, dgDs, start, addEnergy, noEnergy};
-use dna_bases::DnaNucleotideBase;
+use dna_letters::DnaNucleotideBase;
 use units::BaseEnergy;
 
 // ΔG in kcal/mol, ΔS in kcal/(mol·K), and −ΔG in hundredths, by first and second letter in the order A, T, G, C.

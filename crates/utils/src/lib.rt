@@ -1,9 +1,9 @@
 // What the rules take over of the Rust's utils.rs, under its names: the calls on sequences and the tables that they read.
-pub use dna_bases::DnaNucleotideBase;
-pub use dna_bases::good_match;
 pub use dna_calls::string_dna_delta_g;
 pub use dna_calls::string_dna_dg_ds;
 pub use dna_calls::string_dna_hundredths;
+pub use dna_letters::DnaNucleotideBase;
+pub use dna_letters::good_match;
 pub use dna_loops::LENGTHS;
 pub use dna_loops::LOOP_TABLE;
 pub use dna_loops::LoopPenalty;

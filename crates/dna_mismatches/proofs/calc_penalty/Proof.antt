@@ -8,10 +8,10 @@ use native.Mathlib.Omega.{arith}
 use borrow.Author.Needs.{needs}
 use Rattle.units.specs.Decimals.{decimal}
 use Rattle.dna_mismatches.specs.Mismatches.{hundredths, penaltyTable, calcPenalty}
-use Rattle.dna_bases.specs.declared.DnaNucleotideBase.{DnaNucleotideBase}
-use Rattle.dna_bases.specs.declared.DnaNucleotideBase.the-variants.{A, T, G, C}
-use Rattle.dna_bases.specs.Bases.{indexOf}
-use Rattle.dna_bases.proofs.Tables.{index-lt, each-base}
+use Rattle.dna_letters.specs.declared.DnaNucleotideBase.{DnaNucleotideBase}
+use Rattle.dna_letters.specs.declared.DnaNucleotideBase.the-variants.{A, T, G, C}
+use Rattle.dna_letters.specs.Bases.{indexOf}
+use Rattle.dna_letters.proofs.Tables.{index-lt, each-base}
 use Rattle.dna_mismatches.proofs.calc_penalty.Statement.{statement}
 use Rattle.dna_mismatches.proofs.calc_penalty.Tie as tie
 
