@@ -12,4 +12,6 @@ pub use dna_mismatches::PENALTY_TABLE;
 pub use dna_mismatches::calc_penalty;
 pub use dna_mismatches::calculate_single_mismatch_penalty;
 pub use dna_pairs::sequence_pair_str_dg_ds;
+pub use dna_steps::INITIATION_DG;
+pub use dna_steps::INITIATION_DS;
 pub use dna_steps::dg_ds;
