@@ -6,14 +6,14 @@ use Rattle.units.specs.Decimals.{decimal}
 use Rattle.units.specs.Finite.{finite}
 use Rattle.units.specs.Kelvin.{gasConstant}
 use Rattle.units.specs.Places.{firstFailing}
-use Rattle.dna_bases.specs.Bases.{baseOf}
+use Rattle.dna_letters.specs.Bases.{baseOf}
 use Rattle.dna_letters.specs.Letters.{isLetter}
 use Rattle.dna_steps.specs.Steps.{noEnergy as Steps·noEnergy, stepOf, dgDs}
 use Rattle.dna_mismatches.specs.Mismatches.{calcPenalty, penaltyTable}
 use Rattle.dna_loops.specs.Loops.{loopPenalty, upTo, lengths, loopTable}
 use Rattle.dna_pair_windows.specs.Windows.{windowsSum}
 use Rattle.dna_hundredths.specs.Hundredths.{stepsHundredths, endTerm}
-use Rattle.utils.specs.Starred.{starred as Sequences·starred}
+use Rattle.dna_calls.specs.Starred.{starred as Sequences·starred}
 use Rattle.sets.specs.Set.{has, word, members}
 use Rattle.text_entries.specs.Entries.{offsetsFrom}
 use Rattle.bay_system.specs.System.{isLog, firstBadSeed}

@@ -9,7 +9,7 @@ use Rattle.units.specs.declared.EnergyAnswer.{EnergyAnswer}
 use Rattle.units.specs.declared.EnergyAnswer.the-variants.{Energy, Refused}
 use Rattle.units.specs.Decimals.{plus, minus}
 use Rattle.units.specs.Refusals.{refusal}
-use Rattle.utils.specs.Starred.{Outcome as Sequences·Outcome, Case as Sequences·Case, starred as Sequences·starred}
+use Rattle.dna_calls.specs.Starred.{Outcome as Sequences·Outcome, Case as Sequences·Case, starred as Sequences·starred}
 use Rattle.bay_system.specs.System.{System, system}
 use Rattle.bay_lists.specs.Lists.{Constraints, constraints}
 use Rattle.bay_legal_at.specs.Legal.{isLegal}

@@ -1,6 +1,6 @@
 -- The bound of specs, for every sequence, of the contract of `string_dna_dg_ds` itself. Assumes nothing.
 use Prim.Native.Nat.{ℕ, suc, _-_, _≤_}
-use mathlib.Core.Path.{_≡_, refl, ap}
+use mathlib.Core.Path.{refl, ap}
 use mathlib.Core.List.{List}
 use native.Mathlib.Omega.{arith}
 use lib.Dec.{lit≤}
@@ -11,22 +11,20 @@ use denote.Ref.{now}
 use denote.Triple.Clauses.{AtExit}
 use borrow.Fn.Kinds.{Dens, resT, endedOf}
 use Rattle.floats.proofs.Distances.{close-coarser}
-use Rattle.units.specs.declared.BaseEnergy.{BaseEnergy}
-use Rattle.units.specs.declared.BaseEnergyAnswer.the-variants.{Found}
-use Rattle.units.specs.Refusals.{Verdict, passes, refuses}
-use Rattle.units.specs.Answers.{baseEnergyAnswer}
+use Rattle.units.specs.Limits.{mostLetters}
+use Rattle.units.proofs.Answers.{base-energy-answered}
 use Rattle.units.specs.Decimals.{minus}
-use Rattle.dna_bases.specs.declared.DnaNucleotideBase.{DnaNucleotideBase}
-use Rattle.dna_bases.specs.Bases.{baseAt}
+use Rattle.dna_letters.specs.declared.DnaNucleotideBase.{DnaNucleotideBase}
+use Rattle.dna_letters.specs.Bases.{baseAt}
 use Rattle.dna_steps.specs.Steps.{dgDs, start, noEnergy}
 use Rattle.dna_steps.specs.Published.{publishedStartDg}
 use Rattle.dna_steps.proofs.StepTables.{step-at-most}
 use Rattle.dna_steps.proofs.Published.{as-published}
 use Rattle.dna_single.specs.Single.{stepsSum, singleEnergy, singleVerdict}
-use Rattle.utils.specs.Single.{stringDnaDgDs}
-use Rattle.utils.proofs.Refused.{single-short}
-use Rattle.utils.proofs.string_dna_dg_ds.Kinds as kinds
-use Rattle.utils.proofs.string_dna_dg_ds.Reads as reads
+use Rattle.dna_calls.specs.Single.{stringDnaDgDs}
+use Rattle.dna_calls.proofs.Refused.{single-short}
+use Rattle.dna_calls.proofs.string_dna_dg_ds.Kinds as kinds
+use Rattle.dna_calls.proofs.string_dna_dg_ds.Reads as reads
 use Rattle.dna_published.specs.PublishedSums.{publishedDg, wholeTo}
 use Rattle.dna_bound.specs.Bound.{DeltaGBound}
 use Rattle.dna_bound.proofs.Sums.{Running, all-close}
@@ -45,19 +43,12 @@ steps-run dna =
       next = λ i. ap (λ h. add binary64 (minus h 100) (stepsSum dna i .dg)) (as-published (baseAt dna i) (baseAt dna (suc i)) .dg);
     }
 
-answered : (v : Verdict) (e energy : BaseEnergy) → baseEnergyAnswer v e ≡ Found energy → v ≡ passes
-answered passes e energy h = refl
-answered (refuses number values) e energy h = cc
-
-found : (v : Verdict) (e energy : BaseEnergy) → baseEnergyAnswer v e ≡ Found energy → e ≡ energy
-found passes e energy h = cc
-found (refuses number values) e energy h = cc
-
 by-definition : (dna : List ℕ) → DeltaGBound dna (stringDnaDgDs dna)
 unfolding start
 by-definition dna energy h =
-    let few : length dna ≤ 256 = single-short dna (answered (singleVerdict dna) (singleEnergy dna) energy h) in
-    rw (← found (singleVerdict dna) (singleEnergy dna) energy h)
+    let a = base-energy-answered (singleVerdict dna) (singleEnergy dna) energy h in
+    let few : length dna ≤ mostLetters = single-short dna (a .0) in
+    rw (a .1)
     (close-coarser (lit≤ tt) (lit≤ tt) (all-close (steps-run dna) (length dna - 1) publishedStartDg (omega arith) (lit≤ tt)))
 
 -- Of any result that meets the contract of `string_dna_dg_ds`, the bound holds.

@@ -3,8 +3,9 @@ ghost use mathlib.Core.Path.{_≡_};
 ghost use Prim.Native.Nat.{_-_, _<_, _≤_};
 ghost use lib.IntN.{pos, _-ℤ_};
 ghost use lib.ListN.{length};
+ghost use Rattle.units.specs.Limits.{mostLetters};
 ghost use Rattle.dna_hundredths.specs.Hundredths.{isWeak, endTerm, stepsHundredths, singleHundredths};
-use dna_bases::DnaNucleotideBase;
+use dna_letters::DnaNucleotideBase;
 use dna_steps::step_hundredths;
 
 // Whether a base is A or T.
@@ -34,7 +35,7 @@ fn end_term(first: DnaNucleotideBase, last: DnaNucleotideBase) -> u32
 
 // −ΔG of all steps in hundredths.
 fn steps_hundredths(dna: &[u8]) -> u32
-    requires { ⌜ length (now dna) ≤ 256 ⌝ }
+    requires { ⌜ length (now dna) ≤ mostLetters ⌝ }
     ensures { λ r. ⌜ (r ≡ stepsHundredths (now (dna .entry)) (length (now (dna .entry)) - 1)) × (r ≤ 57344) ⌝ }
 {
     let mut sum: u32 = 0;
@@ -57,9 +58,9 @@ fn less(a: u32, b: u32) -> i32
     (a as i32) - (b as i32)
 }
 
-// ΔG of a sequence of 1 to 256 letters: the start and the end term less its steps.
+// ΔG of a sequence of at least one letter and no more than the limit: the start and the end term less its steps.
 pub fn single_hundredths(dna: &[u8]) -> i32
-    requires { ⌜ (0 < length (now dna)) × (length (now dna) ≤ 256) ⌝ }
+    requires { ⌜ (0 < length (now dna)) × (length (now dna) ≤ mostLetters) ⌝ }
     ensures { λ r. ⌜ r ≡ singleHundredths (now (dna .entry)) ⌝ }
 {
     let first = DnaNucleotideBase::from(dna[0]);

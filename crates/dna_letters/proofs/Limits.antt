@@ -5,16 +5,17 @@ use mathlib.Core.List.{List, []}
 use lib.Dec.{ltb}
 use lib.ListN.{length}
 use borrow.Author.Tests.{ltb-false}
+use Rattle.units.specs.Limits.{mostLetters}
 use Rattle.units.specs.Refusals.{passes}
 use Rattle.units.proofs.Verdicts.{Tabled, tabled-if, no-fault}
 use Rattle.dna_letters.specs.Letters.{lengthVerdict, lettersVerdict, firstBad}
 
 pub length-tabled : (dna : List ℕ) → Tabled (lengthVerdict dna)
-length-tabled dna = tabled-if (ltb 256 (length dna)) 13 [] refl
+length-tabled dna = tabled-if (ltb mostLetters (length dna)) 13 [] refl
 
 pub letters-tabled : (sequence : ℕ) (dna : List ℕ) → Tabled (lettersVerdict sequence dna)
 letters-tabled sequence dna = tabled-if (ltb (firstBad dna) (length dna)) 11 _ refl
 
--- a sequence that passed has at most 256 letters
-pub not-longer : (dna : List ℕ) → lengthVerdict dna ≡ passes → length dna ≤ 256
-not-longer dna e = ltb-false 256 (length dna) (no-fault (ltb 256 (length dna)) 13 [] e)
+-- a sequence that passed is not too long
+pub not-longer : (dna : List ℕ) → lengthVerdict dna ≡ passes → length dna ≤ mostLetters
+not-longer dna e = ltb-false mostLetters (length dna) (no-fault (ltb mostLetters (length dna)) 13 [] e)

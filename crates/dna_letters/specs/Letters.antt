@@ -5,8 +5,9 @@ use mathlib.Core.List.{List, [], _∷_}
 use lib.Dec.{ltb}
 use lib.ListN.{length}
 use Rattle.units.specs.Places.{firstFailing}
+use Rattle.units.specs.Limits.{mostLetters}
 use Rattle.units.specs.Refusals.{Verdict, refuseIf}
-use Rattle.dna_bases.specs.Bases.{isA, isC, isG, isT}
+use Rattle.dna_letters.specs.Bases.{isA, isC, isG, isT}
 
 -- one of acgtACGT
 unfoldable pub isLetter : ℕ → Bool
@@ -16,9 +17,9 @@ isLetter letter = isA letter || (isC letter || (isG letter || isT letter))
 abbrev pub firstBad : List ℕ → ℕ
 firstBad dna = firstFailing isLetter dna
 
--- 13: more than 256 letters
+-- 13: more letters than the limit
 abbrev pub lengthVerdict : List ℕ → Verdict
-lengthVerdict dna = refuseIf (ltb 256 (length dna)) 13 []
+lengthVerdict dna = refuseIf (ltb mostLetters (length dna)) 13 []
 
 -- 11, with which sequence and the place: a letter is not one of acgtACGT
 abbrev pub lettersVerdict : ℕ → List ℕ → Verdict

@@ -9,7 +9,7 @@ use lib.ListN.{getD}
 use borrow.Author.Tests.{le-leb, lt-leb, eq-eqb, ne-eqb}
 use Rattle.dna_loops.specs.declared.LoopPenalty.the-variants.{Value, NoValue}
 use Rattle.dna_loops.specs.Loops.{lengths, loopTable, tenths, upTo, atPlace}
-use Rattle.dna_bases.proofs.Tables.{made-at}
+use Rattle.units.proofs.Tables.{made-at}
 
 pub found : (length k : ℕ) → 0 < k → getD lengths (k - 1) 0 ≤ length → upTo length k ≡ k
 unfolding upTo

@@ -4,9 +4,9 @@ ghost use Prim.Native.Nat.{_≤_};
 ghost use Rattle.dna_loops.specs.Loops.{upTo, loopPenalty};
 
 // The loop lengths that have a value, and the values of internal loops in kcal/mol.
-const LENGTHS: [usize; 15] = [3, 4, 5, 6, 7, 8, 9, 10, 12, 14, 16, 18, 20, 25, 30];
+pub const LENGTHS: [usize; 15] = [3, 4, 5, 6, 7, 8, 9, 10, 12, 14, 16, 18, 20, 25, 30];
 
-const LOOP_TABLE: [f64; 15] = [
+pub const LOOP_TABLE: [f64; 15] = [
     3.2,
     3.6,
     4.0,

@@ -15,6 +15,6 @@ unequalVerdict a b = refuseIf (not (eqb (length a) (length b))) 13 []
 abbrev pub pairLetters : List ℕ → List ℕ → Verdict
 pairLetters a b = lettersVerdict 0 a ▷ lettersVerdict 1 b ▷ unequalVerdict a b
 
--- the 256-letter limit before them
+-- the limit of letters before them
 abbrev pub pairTests : List ℕ → List ℕ → Verdict
 pairTests a b = lengthVerdict a ▷ lengthVerdict b ▷ pairLetters a b

@@ -5,7 +5,6 @@ ghost use Rattle.dna_pair_checks.specs.Tests.{pairLetters, pairTests};
 use dna_letters::check_length;
 use dna_letters::check_letters;
 use units::Check;
-use units::Refusal;
 
 // What is refused of the letters of two sequences, and of unequal lengths.
 fn check_pair_letters(a: &[u8], b: &[u8]) -> Check
@@ -20,11 +19,7 @@ fn check_pair_letters(a: &[u8], b: &[u8]) -> Check
         Check::Passed => (),
     }
     if a.len() != b.len() {
-        return Check::Refused(Refusal {
-            number: 13,
-            first: 0,
-            second: 0,
-        });
+        return units::refused(13);
     }
     Check::Passed
 }

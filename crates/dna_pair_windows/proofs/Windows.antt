@@ -8,12 +8,12 @@ use native.Mathlib.Numerals.{add-one}
 use native.Mathlib.Omega.{arith}
 use lib.Dec.{ltb}
 use Rattle.units.specs.declared.BaseEnergy.{BaseEnergy}
-use Rattle.dna_bases.specs.declared.DnaNucleotideBase.{DnaNucleotideBase}
+use Rattle.dna_letters.specs.declared.DnaNucleotideBase.{DnaNucleotideBase}
 use Rattle.dna_loops.specs.declared.LoopPenalty.{LoopPenalty}
 use Rattle.dna_loops.specs.declared.LoopPenalty.the-variants.{Value, NoValue}
 use Rattle.dna_pair_windows.specs.declared.PairSum.{PairSum}
 use Rattle.dna_pair_windows.specs.declared.PairSum.the-variants.{Going, NoLoopValue}
-use Rattle.dna_bases.specs.Bases.{baseAt}
+use Rattle.dna_letters.specs.Bases.{baseAt}
 use Rattle.dna_steps.specs.Steps.{dgDs}
 use Rattle.dna_loops.specs.Loops.{loopPenalty}
 use Rattle.dna_pair_windows.specs.Windows.{closedBy, bothMatch, afterWindow, badIn, windowsSum}

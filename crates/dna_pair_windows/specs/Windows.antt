@@ -6,12 +6,12 @@ use lib.Dec.{ltb}
 use lib.Ieee.{Float, binary64, add}
 use lib.ListN.{length}
 use Rattle.units.specs.declared.BaseEnergy.{BaseEnergy}
-use Rattle.dna_bases.specs.declared.DnaNucleotideBase.{DnaNucleotideBase}
+use Rattle.dna_letters.specs.declared.DnaNucleotideBase.{DnaNucleotideBase}
 use Rattle.dna_loops.specs.declared.LoopPenalty.{LoopPenalty}
 use Rattle.dna_loops.specs.declared.LoopPenalty.the-variants.{Value, NoValue}
 use Rattle.dna_pair_windows.specs.declared.PairSum.{PairSum}
 use Rattle.dna_pair_windows.specs.declared.PairSum.the-variants.{Going, NoLoopValue}
-use Rattle.dna_bases.specs.Bases.{baseAt, goodMatch}
+use Rattle.dna_letters.specs.Bases.{baseAt, goodMatch}
 use Rattle.dna_steps.specs.Steps.{dgDs, addEnergy, noEnergy}
 use Rattle.dna_mismatches.specs.Mismatches.{singleMismatchPenalty}
 use Rattle.dna_loops.specs.Loops.{loopPenalty}

@@ -2,10 +2,11 @@
 ghost use mathlib.Core.Path.{_≡_};
 ghost use Prim.Native.Nat.{_<_, _≤_};
 ghost use lib.ListN.{length};
+ghost use Rattle.units.specs.Limits.{mostLetters};
 ghost use Rattle.dna_loops.specs.Loops.{loopPenalty};
 ghost use Rattle.dna_pair_windows.specs.Windows.{addToDg, closedBy, matched, bothMatch, afterWindow, badIn, pairSum};
-use dna_bases::DnaNucleotideBase;
-use dna_bases::good_match;
+use dna_letters::DnaNucleotideBase;
+use dna_letters::good_match;
 use dna_loops::LoopPenalty;
 use dna_loops::loop_penalty;
 use dna_mismatches::calculate_single_mismatch_penalty;
@@ -75,7 +76,7 @@ fn window(
     b1: DnaNucleotideBase,
     b2: DnaNucleotideBase,
 ) -> PairSum
-    requires { ⌜ bad < 256 ⌝ }
+    requires { ⌜ bad < mostLetters ⌝ }
     ensures { λ r. ⌜ r ≡ afterWindow (PairSum.Going sum bad) a1 a2 b1 b2 ⌝ }
 {
     if both_match(a1, a2, b1, b2) {
@@ -93,7 +94,7 @@ fn after_window(
     b1: DnaNucleotideBase,
     b2: DnaNucleotideBase,
 ) -> PairSum
-    requires { ⌜ badIn sum < 256 ⌝ }
+    requires { ⌜ badIn sum < mostLetters ⌝ }
     ensures { λ r. ⌜ r ≡ afterWindow sum a1 a2 b1 b2 ⌝ }
 {
     match sum {
@@ -104,7 +105,7 @@ fn after_window(
 
 // The sum of all windows.
 pub fn pair_sum(a: &[u8], b: &[u8]) -> PairSum
-    requires { ⌜ length (now a) ≤ 256 ⌝ }
+    requires { ⌜ length (now a) ≤ mostLetters ⌝ }
     requires { ⌜ length (now a) ≡ length (now b) ⌝ }
     ensures { λ r. ⌜ r ≡ pairSum (now (a .entry)) (now (b .entry)) ⌝ }
 {

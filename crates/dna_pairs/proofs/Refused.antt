@@ -6,6 +6,7 @@ use mathlib.Core.List.{List, []}
 use lib.Dec.{eqb}
 use lib.ListN.{length}
 use borrow.Author.Tests.{eqb-true, not-false}
+use Rattle.units.specs.Limits.{mostLetters}
 use Rattle.units.specs.Refusals.{passes, _▷_}
 use Rattle.units.proofs.Verdicts.{Tabled, tabled-if, tabled-then, no-fault, first-passes, rest-passes}
 use Rattle.dna_letters.specs.Letters.{lengthVerdict, lettersVerdict}
@@ -30,8 +31,8 @@ loops-tabled (NoLoopValue n) = refl
 pub pair-tabled : (a b : List ℕ) → Tabled (pairVerdict a b)
 pair-tabled a b = tabled-then (pairTests a b) (loopsVerdict (pairSum a b)) (tests-tabled a b) (loops-tabled (pairSum a b))
 
--- two sequences that passed have at most 256 letters each, and as many
-pub pair-short : (a b : List ℕ) → pairTests a b ≡ passes → length a ≤ 256
+-- two sequences that passed are not too long, and as many
+pub pair-short : (a b : List ℕ) → pairTests a b ≡ passes → length a ≤ mostLetters
 pair-short a b e = not-longer a (first-passes (lengthVerdict a) (lengthVerdict b ▷ pairLetters a b) e)
 
 pub pair-equal : (a b : List ℕ) → pairTests a b ≡ passes → length a ≡ length b

@@ -5,31 +5,29 @@ use mathlib.Core.Bool.{Bool, true, false, cond}
 use mathlib.Core.List.{List}
 use native.Mathlib.Omega.{arith}
 use lib.Ieee.{binary64, add}
-use lib.IntN.{ℤ, pos, _-ℤ_}
+use lib.IntN.{pos, _-ℤ_}
 use lib.ListN.{length}
 use contract.Lifetimes.{Lfts}
 use denote.Ref.{now}
 use denote.Triple.Clauses.{AtExit}
 use borrow.Fn.Kinds.{Dens, resT, endedOf}
+use Rattle.units.proofs.Answers.{base-energy-answered, hundredths-answered}
 use Rattle.units.specs.declared.BaseEnergy.{BaseEnergy}
 use Rattle.units.specs.declared.BaseEnergyAnswer.the-variants.{Found}
-use Rattle.units.specs.declared.HundredthsAnswer.the-variants.{Hundredths}
-use Rattle.units.specs.Answers.{baseEnergyAnswer, hundredthsAnswer}
 use Rattle.units.specs.Decimals.{minus}
-use Rattle.units.specs.Refusals.{Verdict, passes, refuses}
-use Rattle.dna_bases.specs.declared.DnaNucleotideBase.{DnaNucleotideBase}
-use Rattle.dna_bases.specs.Bases.{baseAt}
+use Rattle.dna_letters.specs.declared.DnaNucleotideBase.{DnaNucleotideBase}
+use Rattle.dna_letters.specs.Bases.{baseAt}
 use Rattle.dna_steps.specs.Steps.{noEnergy, dgDs, startHundredths, start}
 use Rattle.dna_steps.specs.Published.{recorded}
 use Rattle.dna_steps.proofs.Published.{as-published}
 use Rattle.dna_hundredths.specs.Hundredths.{stepsHundredths, singleHundredths, endTerm}
 use Rattle.dna_single.specs.Single.{stepsSum, singleEnergy, singleVerdict}
-use Rattle.utils.specs.Single.{stringDnaDgDs}
-use Rattle.utils.specs.Hundredths.{stringDnaHundredths}
-use Rattle.utils.proofs.string_dna_dg_ds.Kinds as dg-ds-kinds
-use Rattle.utils.proofs.string_dna_dg_ds.Reads as dg-ds
-use Rattle.utils.proofs.string_dna_hundredths.Kinds as hundredths-kinds
-use Rattle.utils.proofs.string_dna_hundredths.Reads as hundredths
+use Rattle.dna_calls.specs.Single.{stringDnaDgDs}
+use Rattle.dna_calls.specs.Hundredths.{stringDnaHundredths}
+use Rattle.dna_calls.proofs.string_dna_dg_ds.Kinds as dg-ds-kinds
+use Rattle.dna_calls.proofs.string_dna_dg_ds.Reads as dg-ds
+use Rattle.dna_calls.proofs.string_dna_hundredths.Kinds as hundredths-kinds
+use Rattle.dna_calls.proofs.string_dna_hundredths.Reads as hundredths
 use Rattle.dna_published.specs.PublishedSums.{publishedDg, publishedDs, portedDs, onRecord, wholeTo, roundedTo, rounded, entropy, PublishedSums}
 
 -- the code's sum, ΔG and ΔS, in the words of the statement
@@ -80,33 +78,24 @@ unfolding stepsHundredths wholeTo
 hundredths-sum dna zero = refl
 hundredths-sum dna (suc n) = ap₂ _+_ (hundredths-sum dna n) (as-published (baseAt dna n) (baseAt dna (suc n)) .dg)
 
--- what an answer has found is what it was made of
-found : (v : Verdict) (x e : BaseEnergy) → baseEnergyAnswer v x ≡ Found e → e ≡ x
-found passes x e h = cc
-found (refuses number values) x e h = cc
-
-found-hundredths : (v : Verdict) (x z : ℤ) → hundredthsAnswer v x ≡ Hundredths z → z ≡ x
-found-hundredths passes x z h = cc
-found-hundredths (refuses number values) x z h = cc
-
 -- the definitions that the contracts answer with
 by-definition : (dna : List ℕ) → PublishedSums dna (stringDnaDgDs dna) (stringDnaHundredths dna)
 unfolding start
 by-definition dna =
     record {
-      energy = λ e given. ap (λ x. x .dg) (found (singleVerdict dna) (singleEnergy dna) e given) ∙ ap (λ x. add binary64 x (start .dg)) (energy-sum dna (length dna - 1));
+      energy = λ e given. ap (λ x. x .dg) (base-energy-answered (singleVerdict dna) (singleEnergy dna) e given .1) ∙ ap (λ x. add binary64 x (start .dg)) (energy-sum dna (length dna - 1));
       entropyAsPorted = as-ported;
       entropyOffRecord = λ e given none. as-ported e given ∙ ap (λ x. add binary64 x (start .ds)) (entropies-off-record dna (length dna - 1) none);
       entropySteps = entropy-steps dna (length dna - 1);
       entropyStart = refl;
       inHundredths =
           λ z given.
-          found-hundredths (singleVerdict dna) (singleHundredths dna) z given
+          hundredths-answered (singleVerdict dna) (singleHundredths dna) z given .1
           ∙ ap (λ less. pos (startHundredths + endTerm (baseAt dna 0) (baseAt dna (length dna - 1))) -ℤ pos less) (hundredths-sum dna (length dna - 1));
     }
   where
     as-ported : (e : BaseEnergy) → stringDnaDgDs dna ≡ Found e → e .ds ≡ add binary64 (rounded (λ a b. entropy (pos (portedDs a b))) dna) (start .ds)
-    as-ported e given = ap (λ x. x .ds) (found (singleVerdict dna) (singleEnergy dna) e given) ∙ ap (λ x. add binary64 x (start .ds)) (entropy-sum dna (length dna - 1))
+    as-ported e given = ap (λ x. x .ds) (base-energy-answered (singleVerdict dna) (singleEnergy dna) e given .1) ∙ ap (λ x. add binary64 x (start .ds)) (entropy-sum dna (length dna - 1))
 
 -- Of any two results that meet the contracts of `string_dna_dg_ds` and `string_dna_hundredths` on the same letters, the statement holds.
 pub published-sums : (κs κt : Lfts 1) (x : Dens κs dg-ds-kinds.ps) (y : Dens κt hundredths-kinds.ps)

@@ -12,8 +12,8 @@ use Rattle.units.specs.declared.BaseEnergyAnswer.the-variants.{Found}
 use Rattle.units.specs.declared.HundredthsAnswer.{HundredthsAnswer}
 use Rattle.units.specs.declared.HundredthsAnswer.the-variants.{Hundredths}
 use Rattle.units.specs.Decimals.{plus, minus}
-use Rattle.dna_bases.specs.declared.DnaNucleotideBase.{DnaNucleotideBase}
-use Rattle.dna_bases.specs.Bases.{baseAt}
+use Rattle.dna_letters.specs.declared.DnaNucleotideBase.{DnaNucleotideBase}
+use Rattle.dna_letters.specs.Bases.{baseAt}
 use Rattle.dna_steps.specs.Steps.{stepOf}
 use Rattle.dna_steps.specs.Published.{published, publishedStartDg, publishedStartDs, recorded}
 use Rattle.dna_hundredths.specs.Hundredths.{endTerm}

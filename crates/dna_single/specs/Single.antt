@@ -7,7 +7,7 @@ use lib.ListN.{length}
 use Rattle.units.specs.declared.BaseEnergy.{BaseEnergy}
 use Rattle.units.specs.Refusals.{Verdict, refuseIf, _▷_}
 use Rattle.units.specs.Kelvin.{kelvinVerdict}
-use Rattle.dna_bases.specs.Bases.{baseAt}
+use Rattle.dna_letters.specs.Bases.{baseAt}
 use Rattle.dna_letters.specs.Letters.{lengthVerdict, lettersVerdict}
 use Rattle.dna_steps.specs.Steps.{dgDs, start, addEnergy, noEnergy}
 
@@ -28,7 +28,7 @@ shortVerdict dna = refuseIf (ltb (length dna) 2) 12 []
 abbrev pub withinLimitVerdict : ℕ → List ℕ → Verdict
 withinLimitVerdict sequence dna = lettersVerdict sequence dna ▷ shortVerdict dna
 
--- the 256-letter limit, letters, shortness
+-- the limit of letters, the letters, shortness
 abbrev pub sequenceVerdict : ℕ → List ℕ → Verdict
 sequenceVerdict sequence dna = lengthVerdict dna ▷ withinLimitVerdict sequence dna
 

@@ -4,7 +4,7 @@ ghost use Prim.Native.Nat.{_-_};
 ghost use lib.ListN.{length};
 ghost use Rattle.units.specs.Refusals.{check};
 ghost use Rattle.dna_single.specs.Single.{stepsSum, singleEnergy, withinLimitVerdict, sequenceVerdict, singleAtVerdict};
-use dna_bases::DnaNucleotideBase;
+use dna_letters::DnaNucleotideBase;
 use dna_letters::check_length;
 use dna_letters::check_letters;
 use dna_steps::add_energy;
@@ -13,7 +13,6 @@ use dna_steps::no_energy;
 use dna_steps::start;
 use units::BaseEnergy;
 use units::Check;
-use units::Refusal;
 use units::check_kelvin;
 
 // The sum of all steps, from left to right.
@@ -42,16 +41,12 @@ fn check_within_limit(dna: &[u8], sequence: usize) -> Check
         Check::Passed => (),
     }
     if dna.len() < 2 {
-        return Check::Refused(Refusal {
-            number: 12,
-            first: 0,
-            second: 0,
-        });
+        return units::refused(12);
     }
     Check::Passed
 }
 
-// What is refused of one sequence, whose number 11 names: over 256 letters, a bad letter, under 2 letters.
+// What is refused of one sequence, whose number 11 names: too many letters, a bad letter, under 2 letters.
 pub fn check_single(dna: &[u8], sequence: usize) -> Check
     ensures { λ r. ⌜ r ≡ check (sequenceVerdict sequence (now (dna .entry))) ⌝ }
 {

@@ -5,8 +5,8 @@ use mathlib.Core.Bool.{cond}
 use lib.Ieee.{neg}
 use lib.ListN.{length}
 use Rattle.units.specs.Decimals.{decimal}
-use Rattle.dna_bases.specs.declared.DnaNucleotideBase.{DnaNucleotideBase}
-use Rattle.dna_bases.specs.Bases.{connectsTo}
+use Rattle.dna_letters.specs.declared.DnaNucleotideBase.{DnaNucleotideBase}
+use Rattle.dna_letters.specs.Bases.{connectsTo}
 use Rattle.dna_steps.specs.Steps.{stepOf, start}
 use Rattle.dna_steps.specs.Published.{publishedRows, rowsOf, published, publishedStart, recorded, AsPublished}
 use Rattle.dna_steps.proofs.StepTables.{each-step}

@@ -5,9 +5,10 @@ use mathlib.Core.List.{List, [], _∷_, map}
 use native.Mathlib.Omega.{arith}
 use lib.Dec.{leb, leb→le, T as T′}
 use lib.ListN.{getD}
-use Rattle.dna_bases.specs.declared.DnaNucleotideBase.{DnaNucleotideBase}
-use Rattle.dna_bases.specs.declared.DnaNucleotideBase.the-variants.{A, T, G, C}
-use Rattle.dna_bases.proofs.Tables.{each-base, index-lt, made-at}
+use Rattle.dna_letters.specs.declared.DnaNucleotideBase.{DnaNucleotideBase}
+use Rattle.dna_letters.specs.declared.DnaNucleotideBase.the-variants.{A, T, G, C}
+use Rattle.units.proofs.Tables.{made-at}
+use Rattle.dna_letters.proofs.Tables.{each-base, index-lt}
 use Rattle.dna_steps.specs.Steps.{Step, stepOf, stepPlace}
 
 -- what holds of each step, in the order of the table, holds of all

@@ -8,9 +8,9 @@ use lib.Dec.{eqb}
 use lib.ListN.{length, getD}
 use Rattle.units.specs.declared.BaseEnergy.{BaseEnergy}
 use Rattle.units.specs.Decimals.{plus, minus}
-use Rattle.dna_bases.specs.declared.DnaNucleotideBase.{DnaNucleotideBase}
-use Rattle.dna_bases.specs.declared.DnaNucleotideBase.the-variants.{A, T, G, C}
-use Rattle.dna_bases.specs.Bases.{connectsTo, indexOf}
+use Rattle.dna_letters.specs.declared.DnaNucleotideBase.{DnaNucleotideBase}
+use Rattle.dna_letters.specs.declared.DnaNucleotideBase.the-variants.{A, T, G, C}
+use Rattle.dna_letters.specs.Bases.{connectsTo, indexOf}
 use Rattle.dna_steps.specs.Steps.{stepOf}
 
 -- One row: a step 5'→3', −ΔG in hundredths of a kcal/mol, −ΔS in tenths of a cal/(mol·K), which are ten-thousandths of a kcal/(mol·K).

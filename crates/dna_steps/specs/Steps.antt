@@ -3,9 +3,9 @@ use Prim.Native.Nat.{ℕ, _+_, _*_}
 use lib.Ieee.{binary64, add}
 use Rattle.units.specs.declared.BaseEnergy.{BaseEnergy}
 use Rattle.units.specs.Decimals.{plus, minus}
-use Rattle.dna_bases.specs.declared.DnaNucleotideBase.{DnaNucleotideBase}
-use Rattle.dna_bases.specs.declared.DnaNucleotideBase.the-variants.{A, T, G, C}
-use Rattle.dna_bases.specs.Bases.{indexOf}
+use Rattle.dna_letters.specs.declared.DnaNucleotideBase.{DnaNucleotideBase}
+use Rattle.dna_letters.specs.declared.DnaNucleotideBase.the-variants.{A, T, G, C}
+use Rattle.dna_letters.specs.Bases.{indexOf}
 
 -- One step: −ΔG in hundredths of a kcal/mol, −ΔS in ten-thousandths of a kcal/(mol·K).
 pub record Step : Type 0 where

@@ -2,7 +2,7 @@
 ghost use mathlib.Core.Path.{_≡_};
 ghost use Prim.Native.Nat.{_≤_};
 ghost use Rattle.dna_steps.specs.Steps.{stepPlace, stepOf, dgDs, start, addEnergy, noEnergy};
-use dna_bases::DnaNucleotideBase;
+use dna_letters::DnaNucleotideBase;
 use units::BaseEnergy;
 
 // ΔG in kcal/mol, ΔS in kcal/(mol·K), and −ΔG in hundredths, by first and second letter in the order A, T, G, C.
@@ -63,6 +63,11 @@ const STEP_HUNDREDTHS: [u32; 16] = [
     184, // CC
 ];
 
+// ΔG and ΔS of the start. The paper has its ΔS with a minus.
+pub const INITIATION_DG: f64 = 1.96;
+
+pub const INITIATION_DS: f64 = 0.0057;
+
 // 0.0 and 0.0, where every sum begins.
 pub fn no_energy() -> BaseEnergy
     ensures { λ r. ⌜ r ≡ noEnergy ⌝ }
@@ -70,13 +75,13 @@ pub fn no_energy() -> BaseEnergy
     BaseEnergy { dg: 0.0, ds: 0.0 }
 }
 
-// The start term. The paper has its entropy with a minus.
+// The start term.
 pub fn start() -> BaseEnergy
     ensures { λ r. ⌜ r ≡ start ⌝ }
 {
     BaseEnergy {
-        dg: 1.96,
-        ds: 0.0057,
+        dg: INITIATION_DG,
+        ds: INITIATION_DS,
     }
 }
 

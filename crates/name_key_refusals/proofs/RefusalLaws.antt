@@ -9,7 +9,7 @@ use lib.ListN.{length}
 use Rattle.units.specs.Finite.{finite}
 use Rattle.units.specs.Refusals.{passes, _▷_}
 use Rattle.units.proofs.Verdicts.{Tabled, tabled-if, tabled-then}
-use Rattle.utils.proofs.Refused.{sequence-tabled}
+use Rattle.dna_calls.proofs.Refused.{sequence-tabled}
 use Rattle.text_entries.specs.Entries.{part}
 use Rattle.name_key_values.specs.declared.GsOrSeq.{GsOrSeq}
 use Rattle.name_key_values.specs.declared.GsOrSeq.the-variants.{Gs, Seq}

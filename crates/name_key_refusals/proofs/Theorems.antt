@@ -6,8 +6,8 @@ use Rattle.units.specs.declared.BaseEnergyAnswer.the-variants.{Found}
 use Rattle.units.specs.Refusals.{passes}
 use Rattle.units.specs.Answers.{baseEnergyAnswer}
 use Rattle.dna_single.specs.Single.{singleEnergy}
-use Rattle.utils.specs.Single.{stringDnaDgDs}
-use Rattle.utils.proofs.Refused.{single-passes}
+use Rattle.dna_calls.specs.Single.{stringDnaDgDs}
+use Rattle.dna_calls.proofs.Refused.{single-passes}
 use Rattle.text_entries.specs.Entries.{part}
 use Rattle.name_key_values.specs.declared.GsOrSeq.the-variants.{Seq}
 use Rattle.name_key_refusals.specs.Refusals.{valueVerdict}

@@ -15,7 +15,7 @@ use lib.Ieee.Scale.{round-same}
 use lib.IntN.{pos}
 use lib.ListN.{length, getD}
 use Rattle.units.specs.Decimals.{decimal}
-use Rattle.dna_bases.proofs.Tables.{made-at}
+use Rattle.units.proofs.Tables.{made-at}
 
 -- ---- powers of ten
 

@@ -2,6 +2,7 @@
 use Prim.Native.Nat.{ℕ}
 use mathlib.Core.Path.{_≡_, refl, sym, _∙_, ap, subst}
 use mathlib.Core.List.{List}
+use native.Mathlib.Omega.{arith}
 use lib.IntN.{ℤ}
 use lib.Ieee.{Float}
 use Rattle.units.specs.declared.BaseEnergy.{BaseEnergy}
@@ -9,7 +10,7 @@ use Rattle.units.specs.declared.Refusal.{Refusal}
 use Rattle.units.specs.declared.Check.{Check}
 use Rattle.units.specs.declared.Check.the-variants.{Refused}
 use Rattle.units.specs.declared.BaseEnergyAnswer.{BaseEnergyAnswer}
-use Rattle.units.specs.declared.BaseEnergyAnswer.the-variants.{Refused as BaseEnergy·Refused}
+use Rattle.units.specs.declared.BaseEnergyAnswer.the-variants.{Found, Refused as BaseEnergy·Refused}
 use Rattle.units.specs.declared.EnergyAnswer.{EnergyAnswer}
 use Rattle.units.specs.declared.EnergyAnswer.the-variants.{Energy, Refused as Energy·Refused}
 use Rattle.units.specs.declared.HundredthsAnswer.{HundredthsAnswer}
@@ -68,3 +69,16 @@ a-count n = record { refuses-so = λ number values. refl; reads-back = reads }
     reads : (v : Verdict) → countRefusal (countAnswer v n) ≡ check v
     reads passes = refl
     reads (refuses number values) = refl
+
+-- An answer with a value comes from tests that pass, and its value is the one that it was made of.
+pub energy-answered : (v : Verdict) (value energy : Float) → energyAnswer v value ≡ Energy energy → (v ≡ passes) × (energy ≡ value)
+energy-answered passes value energy e = (refl, cc)
+energy-answered (refuses number values) value energy e = let z : _≡_ {A = ℕ} 0 1 = cc in absurd (omega arith)
+
+pub base-energy-answered : (v : Verdict) (value energy : BaseEnergy) → baseEnergyAnswer v value ≡ Found energy → (v ≡ passes) × (energy ≡ value)
+base-energy-answered passes value energy e = (refl, cc)
+base-energy-answered (refuses number values) value energy e = let z : _≡_ {A = ℕ} 0 1 = cc in absurd (omega arith)
+
+pub hundredths-answered : (v : Verdict) (value hundredths : ℤ) → hundredthsAnswer v value ≡ Hundredths hundredths → (v ≡ passes) × (hundredths ≡ value)
+hundredths-answered passes value hundredths e = (refl, cc)
+hundredths-answered (refuses number values) value hundredths e = let z : _≡_ {A = ℕ} 0 1 = cc in absurd (omega arith)

@@ -1,4 +1,5 @@
 pub mod Tests
+pub mod Tables
 pub mod Verdicts
 pub mod Answers
 pub mod Unique

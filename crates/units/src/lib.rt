@@ -35,6 +35,12 @@ pub const LEAST_KELVIN: f64 = 200.0;
 
 pub const MOST_KELVIN: f64 = 500.0;
 
+// R in kcal/(mol·K).
+pub const R: f64 = 1.98720425864083 / 1000.0;
+
+// 37 °C in kelvin, the temperature of the printed ΔG.
+pub const T37C: f64 = 310.15;
+
 // The limits as the code has them, one by one those of the definitions.
 pub struct Limits {
     pub side: usize,
@@ -161,14 +167,14 @@ pub fn from_one_to(most: usize, n: usize) -> bool
 pub fn energy_at(energy: BaseEnergy, kelvin: f64) -> f64
     ensures { λ r. ⌜ r ≡ energyAt energy kelvin ⌝ }
 {
-    energy.dg - (kelvin - 310.15) * energy.ds
+    energy.dg - (kelvin - T37C) * energy.ds
 }
 
 // R·T in kcal/mol.
 pub fn rtval(kelvin: f64) -> f64
     ensures { λ r. ⌜ r ≡ Kelvin·rtval kelvin ⌝ }
 {
-    (1.98720425864083 / 1000.0) * kelvin
+    R * kelvin
 }
 
 // An energy in units of R·T.

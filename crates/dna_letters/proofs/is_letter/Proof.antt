@@ -1,7 +1,7 @@
 -- `dna_letters::is_letter` meets its contract: each arm knows which bytes lead to it. Assumes nothing.
 use mathlib.Core.Logic.{⊎-elim}
 use Rattle.dna_letters.specs.Letters.{isLetter}
-use Rattle.dna_bases.proofs.Tests.{neither}
+use Rattle.dna_letters.proofs.Tests.{neither}
 use Rattle.dna_letters.proofs.is_letter.Statement.{statement}
 use Rattle.dna_letters.proofs.is_letter.Tie as tie
 

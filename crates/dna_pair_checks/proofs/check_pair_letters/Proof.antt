@@ -59,8 +59,11 @@ returns-2 c =
 enum-told-2 : tie.Need-enum-told-2
 enum-told-2 c = search needs
 
+refused-requires : tie.Need-refused-requires
+refused-requires c κs = search needs
+
 returns-3 : tie.Need-returns-3
-returns-3 c = rw (two-passed (c .before), ne-eqb _ _ (c .if1 .taken))
+returns-3 c = rw (two-passed (c .before .before), ne-eqb _ _ (c .before .if1 .taken)) (c .refused .ensures)
 
 returns-4 : tie.Need-returns-4
 returns-4 c = rw (two-passed (c .before), eq-eqb _ _ (c .if1 .left))
@@ -77,5 +80,6 @@ check-pair-letters-spec =
     enum-known-r-2
     returns-2
     enum-told-2
+    refused-requires
     returns-3
     returns-4)

@@ -31,8 +31,11 @@ lettered c =
     let a = test .before .before .args in
     passed-first (lettersVerdict (a .sequence) (now (a .dna))) (shortVerdict (now (a .dna))) (test .check-letters .ensures) (c .enum-told .given .1)
 
+refused-requires : tie.Need-refused-requires
+refused-requires c κs = search needs
+
 returns-2 : tie.Need-returns-2
-returns-2 c = rw (lettered (c .before), lt-ltb _ _ (c .if1 .taken))
+returns-2 c = rw (lettered (c .before .before), lt-ltb _ _ (c .before .if1 .taken)) (c .refused .ensures)
 
 returns-3 : tie.Need-returns-3
 returns-3 c = rw (lettered (c .before), le-ltb _ _ (c .if1 .left))
@@ -40,4 +43,4 @@ returns-3 c = rw (lettered (c .before), le-ltb _ _ (c .if1 .left))
 pub check-within-limit-spec : {M : Type 1} → statement M
 check-within-limit-spec =
     tie.close
-    (tie.spec check-letters-requires enum-known-r returns enum-told returns-2 returns-3)
+    (tie.spec check-letters-requires enum-known-r returns enum-told refused-requires returns-2 returns-3)

@@ -1,7 +1,7 @@
 -- `dna_steps::step_place` meets its contract: both indices are below 4, so nothing wraps. Assumes nothing.
 use native.Mathlib.Omega.{arith}
 use borrow.Author.Needs.{needs}
-use Rattle.dna_bases.proofs.Tables.{index-lt}
+use Rattle.dna_letters.proofs.Tables.{index-lt}
 use Rattle.dna_steps.proofs.step_place.Statement.{statement}
 use Rattle.dna_steps.proofs.step_place.Tie as tie
 

@@ -1,4 +1,4 @@
--- `utils::single::string_dna_delta_g` meets its contract: the tests refuse, or the value is answered. Assumes nothing.
+-- `dna_calls::single::string_dna_delta_g` meets its contract: the tests refuse, or the value is answered. Assumes nothing.
 use mathlib.Core.Path.{_∙_, ap}
 use denote.Ref.{now}
 use borrow.Author.Needs.{needs}
@@ -6,10 +6,10 @@ use Rattle.units.proofs.Answers.{an-energy, refused, given}
 use Rattle.units.proofs.Verdicts.{passed}
 use Rattle.units.specs.Kelvin.{energyAt}
 use Rattle.units.specs.declared.EnergyAnswer.the-variants.{Energy}
-use Rattle.utils.proofs.Refused.{single-at-tabled}
+use Rattle.dna_calls.proofs.Refused.{single-at-tabled}
 use Rattle.dna_single.specs.Single.{singleAtVerdict, singleEnergy}
-use Rattle.utils.proofs.single.string_dna_delta_g.Statement.{statement}
-use Rattle.utils.proofs.single.string_dna_delta_g.Tie as tie
+use Rattle.dna_calls.proofs.single.string_dna_delta_g.Statement.{statement}
+use Rattle.dna_calls.proofs.single.string_dna_delta_g.Tie as tie
 
 check-single-at-requires : tie.Need-check-single-at-requires
 check-single-at-requires c κs = search needs

@@ -3,7 +3,7 @@ ghost use mathlib.Core.Path.{_≡_};
 ghost use Rattle.units.specs.Refusals.{Prints};
 ghost use Rattle.units.specs.Answers.{hundredthsRefusal};
 ghost use Rattle.dna_single.specs.Single.{singleVerdict};
-ghost use Rattle.utils.specs.Hundredths.{stringDnaHundredths};
+ghost use Rattle.dna_calls.specs.Hundredths.{stringDnaHundredths};
 use dna_hundredths::single_hundredths;
 use dna_single::check_single;
 use units::Check;

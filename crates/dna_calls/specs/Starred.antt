@@ -9,10 +9,10 @@ use Rattle.units.specs.declared.HundredthsAnswer.{HundredthsAnswer}
 use Rattle.units.specs.Decimals.{plus}
 use Rattle.units.specs.Refusals.{passes, refuses}
 use Rattle.units.specs.Answers.{baseEnergyAnswer, hundredthsAnswer}
-use Rattle.dna_bases.specs.Bases.{baseAt}
+use Rattle.dna_letters.specs.Bases.{baseAt}
 use Rattle.dna_steps.specs.Steps.{noEnergy}
 use Rattle.dna_mismatches.specs.Mismatches.{singleMismatchPenalty}
-use Rattle.utils.specs.Hundredths.{stringDnaHundredths}
+use Rattle.dna_calls.specs.Hundredths.{stringDnaHundredths}
 use Rattle.dna_pairs.specs.Pair.{sequencePairDgDs}
 
 -- what a case is about

@@ -3,7 +3,7 @@ ghost use mathlib.Core.Path.{_≡_};
 ghost use Rattle.units.specs.Refusals.{Prints};
 ghost use Rattle.units.specs.Answers.{baseEnergyRefusal, energyRefusal};
 ghost use Rattle.dna_single.specs.Single.{singleVerdict, singleAtVerdict};
-ghost use Rattle.utils.specs.Single.{stringDnaDgDs, stringDnaDeltaG};
+ghost use Rattle.dna_calls.specs.Single.{stringDnaDgDs, stringDnaDeltaG};
 use dna_single::check_single;
 use dna_single::check_single_at;
 use dna_single::single_energy;

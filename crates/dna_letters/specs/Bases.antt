@@ -4,8 +4,8 @@ use mathlib.Core.Bool.{Bool, cond, _||_}
 use mathlib.Core.List.{List}
 use lib.Dec.{eqb}
 use lib.ListN.{getD}
-use Rattle.dna_bases.specs.declared.DnaNucleotideBase.{DnaNucleotideBase}
-use Rattle.dna_bases.specs.declared.DnaNucleotideBase.the-variants.{A, T, G, C}
+use Rattle.dna_letters.specs.declared.DnaNucleotideBase.{DnaNucleotideBase}
+use Rattle.dna_letters.specs.declared.DnaNucleotideBase.the-variants.{A, T, G, C}
 
 -- a letter in upper or lower case: 65 and 97 are A and a
 abbrev pub isA : ℕ → Bool

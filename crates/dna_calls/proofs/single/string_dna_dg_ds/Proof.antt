@@ -1,14 +1,14 @@
--- `utils::single::string_dna_dg_ds` meets its contract: the tests refuse, or the value is answered. Assumes nothing.
+-- `dna_calls::single::string_dna_dg_ds` meets its contract: the tests refuse, or the value is answered. Assumes nothing.
 use mathlib.Core.Path.{ap}
 use denote.Ref.{now}
 use borrow.Author.Needs.{needs}
 use Rattle.units.proofs.Answers.{base-energy, refused, given}
 use Rattle.units.proofs.Verdicts.{passed}
 use Rattle.units.specs.declared.BaseEnergyAnswer.the-variants.{Found}
-use Rattle.utils.proofs.Refused.{single-tabled}
+use Rattle.dna_calls.proofs.Refused.{single-tabled}
 use Rattle.dna_single.specs.Single.{singleVerdict, singleEnergy}
-use Rattle.utils.proofs.single.string_dna_dg_ds.Statement.{statement}
-use Rattle.utils.proofs.single.string_dna_dg_ds.Tie as tie
+use Rattle.dna_calls.proofs.single.string_dna_dg_ds.Statement.{statement}
+use Rattle.dna_calls.proofs.single.string_dna_dg_ds.Tie as tie
 
 check-single-requires : tie.Need-check-single-requires
 check-single-requires c κs = search needs

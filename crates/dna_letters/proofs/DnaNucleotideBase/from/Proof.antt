@@ -1,9 +1,9 @@
--- `dna_bases::DnaNucleotideBase::from` meets its contract: each arm knows which bytes lead to it. Assumes nothing.
+-- `dna_letters::DnaNucleotideBase::from` meets its contract: each arm knows which bytes lead to it. Assumes nothing.
 use mathlib.Core.Logic.{⊎-elim}
-use Rattle.dna_bases.specs.Bases.{baseOf}
-use Rattle.dna_bases.proofs.Tests.{neither}
-use Rattle.dna_bases.proofs.DnaNucleotideBase.from.Statement.{statement}
-use Rattle.dna_bases.proofs.DnaNucleotideBase.from.Tie as tie
+use Rattle.dna_letters.specs.Bases.{baseOf}
+use Rattle.dna_letters.proofs.Tests.{neither}
+use Rattle.dna_letters.proofs.DnaNucleotideBase.from.Statement.{statement}
+use Rattle.dna_letters.proofs.DnaNucleotideBase.from.Tie as tie
 
 returns : tie.Need-returns
 unfolding baseOf

@@ -1,4 +1,4 @@
--- `utils::hundredths::string_dna_hundredths` meets its contract: the tests refuse, or the value is answered. Assumes nothing.
+-- `dna_calls::hundredths::string_dna_hundredths` meets its contract: the tests refuse, or the value is answered. Assumes nothing.
 use mathlib.Core.Path.{_≡_, _∙_, ap}
 use native.Mathlib.Omega.{arith}
 use mir.Syntax.{w32}
@@ -9,11 +9,11 @@ use Rattle.units.proofs.Answers.{in-hundredths, refused, given}
 use Rattle.units.proofs.Verdicts.{passed}
 use Rattle.units.specs.Refusals.{passes}
 use Rattle.units.specs.declared.HundredthsAnswer.the-variants.{Hundredths}
-use Rattle.utils.proofs.Refused.{single-tabled, single-short, single-long}
+use Rattle.dna_calls.proofs.Refused.{single-tabled, single-short, single-long}
 use Rattle.dna_hundredths.specs.Hundredths.{singleHundredths}
 use Rattle.dna_single.specs.Single.{singleVerdict}
-use Rattle.utils.proofs.hundredths.string_dna_hundredths.Statement.{statement}
-use Rattle.utils.proofs.hundredths.string_dna_hundredths.Tie as tie
+use Rattle.dna_calls.proofs.hundredths.string_dna_hundredths.Statement.{statement}
+use Rattle.dna_calls.proofs.hundredths.string_dna_hundredths.Tie as tie
 
 check-single-requires : tie.Need-check-single-requires
 check-single-requires c κs = search needs

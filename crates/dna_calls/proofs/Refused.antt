@@ -7,6 +7,7 @@ use lib.Dec.{ltb}
 use lib.Ieee.{Float}
 use lib.ListN.{length}
 use borrow.Author.Tests.{ltb-false}
+use Rattle.units.specs.Limits.{mostLetters}
 use Rattle.units.specs.Refusals.{passes, _▷_}
 use Rattle.units.specs.Kelvin.{kelvinVerdict, inKelvinRange}
 use Rattle.units.proofs.Verdicts.{Tabled, tabled-if, tabled-then, no-fault, first-passes, rest-passes}
@@ -36,8 +37,8 @@ single-passes sequence dna e =
       rest-passes (lettersVerdict sequence dna) (shortVerdict dna) rest,
     )
 
--- a sequence that passed has at most 256 letters
-pub single-short : (dna : List ℕ) → singleVerdict dna ≡ passes → length dna ≤ 256
+-- a sequence that passed is not too long
+pub single-short : (dna : List ℕ) → singleVerdict dna ≡ passes → length dna ≤ mostLetters
 single-short dna e = not-longer dna (first-passes (lengthVerdict dna) (lettersVerdict 0 dna ▷ shortVerdict dna) e)
 
 -- and at least 2

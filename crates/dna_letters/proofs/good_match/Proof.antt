@@ -1,7 +1,7 @@
--- `dna_bases::good_match` meets its contract: the two indices are those of the definition. Assumes nothing.
+-- `dna_letters::good_match` meets its contract: the two indices are those of the definition. Assumes nothing.
 use borrow.Author.Needs.{needs}
-use Rattle.dna_bases.proofs.good_match.Statement.{statement}
-use Rattle.dna_bases.proofs.good_match.Tie as tie
+use Rattle.dna_letters.proofs.good_match.Statement.{statement}
+use Rattle.dna_letters.proofs.good_match.Tie as tie
 
 connects-to-requires : tie.Need-connects-to-requires
 connects-to-requires c κs = search needs
