@@ -10,6 +10,9 @@ add-next c = search needs
 next-requires : tie.Need-next-requires
 next-requires c κs = search needs
 
+cast-if1 : tie.Need-cast-if1
+cast-if1 c = search needs
+
 next-requires-2 : tie.Need-next-requires-2
 next-requires-2 c κs = search needs
 
@@ -24,4 +27,4 @@ returns-2 c =
     following-round (a .set) (a .u) (c .before .before .next .result) (c .next2 .result) (c .before .before .next .ensures) (c .before .if1 .left) (c .next2 .ensures)
 
 pub following-spec : {M : Type 1} → statement M
-following-spec = tie.close (tie.spec add-next next-requires next-requires-2 returns returns-2)
+following-spec = tie.close (tie.spec add-next next-requires cast-if1 next-requires-2 returns returns-2)

@@ -5,6 +5,7 @@ use native.Mathlib.Omega.{arith}
 use lib.ListN.{length}
 use denote.Ref.{now}
 use borrow.Author.Needs.{needs}
+use Rattle.units.specs.Limits.{mostStrands}
 use Rattle.sets.specs.Set.{has}
 use Rattle.sets.proofs.Members.{length-le}
 use Rattle.ledger_row_choice.specs.Row.{strandsOf}
@@ -33,7 +34,7 @@ module _ (l : tie.At-loop Inv-loop μ-loop) where
   same-notes =
       notes-kept (l .loop .inv .1)
 
-  u-small : l .loop .u < 64
+  u-small : l .loop .u < mostStrands
   u-small =
       block-small (l .loop .inv .1)
 
@@ -46,7 +47,7 @@ size-requires : tie.Need-size-requires Inv-loop μ-loop
 size-requires c κs = search needs
 
 cast-count : tie.Need-cast-count Inv-loop μ-loop
-cast-count c = omega (arith, c .size .ensures, length-le (has (c .before .before .before .before .args .bay .set)) 64)
+cast-count c = omega (arith, c .size .ensures, length-le (has (c .before .before .before .before .args .bay .set)) mostStrands)
 
 next-requires : tie.Need-next-requires Inv-loop μ-loop
 next-requires c κs = search needs

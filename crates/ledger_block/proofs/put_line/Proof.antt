@@ -10,6 +10,7 @@ use lib.ListN.{length, getD}
 use denote.Ref.{now}
 use borrow.Author.Needs.{needs, scaled-fits}
 use borrow.Author.Tests.{not-true, not-false}
+use Rattle.units.specs.Limits.{mostStrands}
 use Rattle.floats.specs.declared.Choice.{Choice}
 use Rattle.ledger_rows.specs.Blocks.{tab}
 use Rattle.ledger_row_choice.specs.declared.Own.{Own}
@@ -52,7 +53,7 @@ energies-next c = energies-room (c .before .before .loop .inv) (more c)
 notes-next : (c : tie.Then1 Inv-loop μ-loop) → c .before .before .loop .j < length (c .before .before .loop .notes)
 notes-next c = notes-room (c .before .before .loop .inv) (more c)
 
-strand-next : (c : tie.After-first Inv-loop μ-loop) → c .first .result < 64
+strand-next : (c : tie.After-first Inv-loop μ-loop) → c .first .result < mostStrands
 strand-next c = line-small (c .before .before .before .loop .inv) (more (c .before)) (c .first .ensures)
 
 loop-holds : tie.Need-loop-holds Inv-loop μ-loop
@@ -94,7 +95,7 @@ row-requires : tie.Need-row-requires Inv-loop μ-loop
 row-requires c κs =
     let f = c .before .before .before in
     let s = start (f .before .before .before) in
-    (subst (λ t. t < 64) (sym (ap (λ (o : Own). o .strand) (c .before .before .own-of .ensures))) (strand-next f), s .pre .0 .1, s .pre .1 .small, s .pre .1 .some-leave)
+    (subst (λ t. t < mostStrands) (sym (ap (λ (o : Own). o .strand) (c .before .before .own-of .ensures))) (strand-next f), s .pre .0 .1, s .pre .1 .small, s .pre .1 .some-leave)
 
 mul-energies : tie.Need-mul-energies Inv-loop μ-loop
 mul-energies c =
@@ -131,7 +132,7 @@ cast-notes c =
     let a = s .args in
     let p = l .loop .inv .count in
     let own = ownOf (a .bay) (now (a .here)) (now (a .side)) (a .u) (getD (strandsOf (a .bay .set)) p 0) in
-    let small : rowsOf s p .who < 64 =
+    let small : rowsOf s p .who < mostStrands =
     who-small own (now (a .major)) (part (a .from) (a .end) (now (a .energies))) (a .bay .leaving) (a .bay .width) (a .q) (s .pre .1 .some-leave) in
     omega (arith, ap (λ (r : Choice). r .who) (best-is (c .before)))
 

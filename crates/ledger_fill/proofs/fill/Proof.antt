@@ -4,6 +4,7 @@ use Prim.Native.Nat.{_+_, _-_, _*_, _≤_, _<_}
 use native.Mathlib.Omega.{arith}
 use lib.ListN.{length}
 use denote.Ref.{now}
+use Rattle.units.specs.Limits.{mostStrands}
 use Rattle.ledger_row_choice.specs.Row.{strandsOf}
 use Rattle.ledger_block.specs.Block.{Writable}
 use Rattle.ledger_fill.proofs.Filling.{Filling, filling-starts, energies-whole, notes-whole, fill-comes, bay-in, here-long, bay-writable, previous-some, filling-turns, filling-ends}
@@ -30,7 +31,7 @@ module _ (l : tie.At-loop Inv-loop μ-loop) where
   same-notes =
       notes-whole (l .loop .inv)
 
-  bay-inside : l .loop .k < length (now (start l .args .sets)) → l .loop .k * 64 + 64 ≤ length (now (start l .args .bays))
+  bay-inside : l .loop .k < length (now (start l .args .sets)) → l .loop .k * mostStrands + mostStrands ≤ length (now (start l .args .bays))
   bay-inside h =
       bay-in (l .loop .inv) h
 
@@ -51,7 +52,7 @@ loop-holds c =
 bay-at-requires : tie.Need-bay-at-requires Inv-loop μ-loop
 bay-at-requires c κs =
     let l = c .before in (
-      (start l .pre .some-window, c .loop-test .taken),
+      (start l .pre .room .some-window, c .loop-test .taken),
       fill-comes (l .loop .inv) (c .loop-test .taken) .some-leave,
     )
 

@@ -8,6 +8,7 @@ use lib.Dec.{eqb}
 use lib.ListN.{length}
 use borrow.Author.Needs.{needs}
 use borrow.Author.Tests.{not-true, not-false}
+use Rattle.units.specs.Limits.{mostStrands}
 use Rattle.sets.specs.Set.{has, nextOf}
 use Rattle.ledger_row_choice.specs.Row.{strandsOf}
 use Rattle.ledger_row_choice.proofs.Leaving.{Leaving, first, starts, strand-small, turns, fewer, place-small, ends}
@@ -21,7 +22,7 @@ abbrev μ-loop : tie.MeasureT-loop
 μ-loop before q width leaving major own choice₀ left₀ i₀ choice left i = length (strandsOf left)
 
 -- the first strand that leaves
-first-small : (s : tie.Start Inv-loop μ-loop) (r : ℕ) → r ≡ nextOf (has (s .args .leaving)) 0 64 → r < 64
+first-small : (s : tie.Start Inv-loop μ-loop) (r : ℕ) → r ≡ nextOf (has (s .args .leaving)) 0 mostStrands → r < mostStrands
 first-small s r e =
     let a = s .args in
     omega (arith, e, first (a .own) (now (a .major)) (now (a .before)) (a .leaving) (a .width) (a .q) (s .pre .3) .below)

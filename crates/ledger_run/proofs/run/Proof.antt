@@ -13,7 +13,7 @@ use Rattle.floats.specs.declared.Choice.{Choice}
 use Rattle.ledger_rows.specs.Scan.{Scan}
 use Rattle.ledger_rows.specs.Trace.{answerRow, answer}
 use Rattle.ledger_fill.specs.Handed.{runScan}
-use Rattle.ledger_run.proofs.Running.{Ran, last-in-order, last-energies, last-notes, filled-long, last-some, answer-is, cleared-energies, kept-energies, noted-long, traceable, answer-place, answer-row-in, traced-order, kept-notes, cleared-notes, kept-order}
+use Rattle.ledger_run.proofs.Running.{OnceFilled, last-in-order, last-energies, last-notes, filled-long, last-some, answer-is, noted-long, traceable, answer-place, answer-row-in, traced-order, ran-bad, ran-good}
 use Rattle.ledger_run.proofs.run.Statement.{statement}
 use Rattle.ledger_run.proofs.run.Tie as tie
 
@@ -34,9 +34,9 @@ abbrev noted : tie.After-fill → List ℕ
 noted f = f .fill .last .1 .1 .1 .1 .1 .1 .0
 
 ran : (f : tie.After-fill)
-    → Ran (start f .args .window) (now (start f .args .sets)) (now (start f .args .bays)) (now (start f .args .major)) (now (start f .args .side)) (now (start f .args .energies))
+    → OnceFilled (start f .args .window) (now (start f .args .sets)) (now (start f .args .bays)) (now (start f .args .major)) (now (start f .args .side)) (now (start f .args .energies))
     (now (start f .args .notes)) (f .fill .result) (filled f) (noted f)
-ran f = record { some = start f .pre .1 .0; fit = start f .pre .0; last-is = f .fill .ensures .0; energies-are = f .fill .ensures .1 .0; notes-are = f .fill .ensures .1 .1 }
+ran f = record { some = start f .pre .1 .0; fit = start f .pre .0; done = f .fill .ensures }
 
 in-filled : (f : tie.After-fill) → f .fill .result .end ≤ length (filled f)
 in-filled f = omega (arith, last-energies (ran f), filled-long (ran f))
@@ -99,13 +99,8 @@ returns : tie.Need-returns
 returns c =
     let best = c .before .before .before .before .before .before .before .before .before .before in
     let f = before best in
-    let no = bad (c .before .before .before .before .before .before .before .before) in (
-      is-answer best,
-      (
-        kept-order (scan f) (bays f) (now (start f .args .order)) no,
-        (cleared-energies (ran f) _ (c .before .before .before .before .before .before .clear-energies .ensures) no, cleared-notes (ran f) _ (c .before .before .clear-notes .ensures) no),
-      ),
-    )
+    let no = bad (c .before .before .before .before .before .before .before .before) in
+    ran-bad (ran f) (now (start f .args .order)) (is-answer best) no (c .before .before .before .before .before .before .clear-energies .ensures) (c .before .before .clear-notes .ensures)
 
 sub-t18 : tie.Need-sub-t18
 sub-t18 c = last-in-order (ran (c .before .before .before .before .before .before .before .before .before))
@@ -114,7 +109,7 @@ trace-requires : tie.Need-trace-requires
 trace-requires c κs =
     let best = c .before .before .before .before in
     let f = before best in
-    (traceable (ran f), (answer-place (ran f) _ (best-is best), answer-row-in (ran f) _ (best-is best), start f .pre .1 .1))
+    (traceable (ran f), (start f .pre .1 .1, (answer-place (ran f) _ (best-is best), answer-row-in (ran f) _ (best-is best))))
 
 same-length-3 : tie.Need-same-length-3
 same-length-3 c = search needs
@@ -129,13 +124,9 @@ returns-2 : tie.Need-returns-2
 returns-2 c =
     let best = c .before .before .before .before .before .before .before in
     let f = before best in
-    let ok = good (c .before .before .before .before .before) in (
-      is-answer best,
-      (
-        traced-order (ran f) _ (best-is best) (now (start f .args .order)) _ (c .before .before .trace .ensures) ok,
-        (kept-energies (ran f) ok, kept-notes (ran f) ok),
-      ),
-    )
+    let ok = good (c .before .before .before .before .before) in
+    let order = now (start f .args .order) in
+    ran-good (ran f) order (is-answer best) ok (traced-order (ran f) _ (best-is best) order _ (c .before .before .trace .ensures) ok)
 
 pub run-spec : {M : Type 1} → statement M
 run-spec =

@@ -5,6 +5,7 @@ use native.Mathlib.Omega.{arith}
 use lib.ListN.{length, getD}
 use denote.Ref.{now}
 use borrow.Author.Needs.{needs}
+use Rattle.units.specs.Limits.{mostRows, mostStrands}
 use Rattle.sets.specs.Set.{has, members}
 use Rattle.ledger_rows.specs.Scan.{Scan}
 use Rattle.ledger_rows.specs.Blocks.{leavers, need, size}
@@ -18,7 +19,7 @@ use Rattle.ledger_way_back.proofs.step_back.Tie as tie
 
 -- the row from which the step begins
 on : (s : tie.Start) → OnRow (s .args .window) (now (s .args .sets)) (now (s .args .notes)) (s .args .k) (s .args .at)
-on s = record { tables = s .pre .0; bay = s .pre .1 .0; place = s .pre .1 .1; inside = s .pre .1 .2 }
+on s = record { tables = s .pre .0; bay = s .pre .1 .0; place = s .pre .1 .1 .0; inside = s .pre .1 .1 .1 }
 
 abbrev scan : tie.Start → Scan
 scan s = setScan (s .args .window) (now (s .args .sets))
@@ -48,13 +49,13 @@ place c =
     let s = start (sized c) in
     let at = s .args .at in
     c .position .ensures
-    ∙ ap (λ n. length (members (has (c .before .before .before .leaving .result)) n)) (c .before .wide .ensures)
+    ∙ ap (λ n. length (members (has (c .before .before .before .leaving .result)) n)) (c .before .noted-strand .ensures)
     ∙ ap (λ l. length (members (has l) (getD (now (s .args .notes)) (at .end - at .rows + at .row) 0))) (c .before .before .before .leaving .ensures)
     ∙ position-is (on s)
 
 -- the product of the position and the width is small
-product : (c : tie.After-position) → c .position .result * (start (sized c) .args .at .rows / sized c .size .result) ≤ 67108864
-product c = subst (λ w. c .position .result * w ≤ 67108864) (sym (width (sized c))) (product-few (on (start (sized c))) (c .position .result) (place c))
+product : (c : tie.After-position) → c .position .result * (start (sized c) .args .at .rows / sized c .size .result) ≤ mostRows * mostStrands
+product c = subst (λ w. c .position .result * w ≤ mostRows * mostStrands) (sym (width (sized c))) (product-few (on (start (sized c))) (c .position .result) (place c))
 
 -- how many leave
 leaves : (c : tie.After-size2) → c .size2 .result ≡ length (strandsOf (leavingAt (start (sized (c .before .before)))))
@@ -86,11 +87,11 @@ add-place c =
 leaving-requires : tie.Need-leaving-requires
 leaving-requires c κs = search needs
 
-shared-slice-read-wide : tie.Need-shared-slice-read-wide
-shared-slice-read-wide c = place-in (on (start (c .before .before .before .before .before)))
+shared-slice-read-noted-strand : tie.Need-shared-slice-read-noted-strand
+shared-slice-read-noted-strand c = place-in (on (start (c .before .before .before .before .before)))
 
-wide-requires : tie.Need-wide-requires
-wide-requires c κs = search needs
+noted-strand-requires : tie.Need-noted-strand-requires
+noted-strand-requires c κs = search needs
 
 position-requires : tie.Need-position-requires
 position-requires c κs = search needs
@@ -118,8 +119,8 @@ cast-t22 c = search needs
 mul-t23 : tie.Need-mul-t23
 mul-t23 c =
     let n = sized (c .before .before) in
-    let few : c .size2 .result * (start n .args .at .rows / n .size .result) ≤ 67108864 =
-    subst (λ w. c .size2 .result * w ≤ 67108864) (sym (width n)) (leaves-few (on (start n)) (c .size2 .result) (leaves c)) in
+    let few : c .size2 .result * (start n .args .at .rows / n .size .result) ≤ mostRows * mostStrands =
+    subst (λ w. c .size2 .result * w ≤ mostRows * mostStrands) (sym (width n)) (leaves-few (on (start n)) (c .size2 .result) (leaves c)) in
     omega arith
 
 returns : tie.Need-returns
@@ -141,8 +142,8 @@ step-back-spec =
     sub-from
     add-place
     leaving-requires
-    shared-slice-read-wide
-    wide-requires
+    shared-slice-read-noted-strand
+    noted-strand-requires
     position-requires
     cast-position
     mul-t13

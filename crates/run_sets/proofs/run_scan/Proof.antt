@@ -14,7 +14,7 @@ use Rattle.ledger_fill.specs.Handed.{runScan, capped}
 use Rattle.bay_scan_order.specs.Scan.{byRows, window}
 use Rattle.run_tables.specs.Tables.{bondTable, siteTable}
 use Rattle.run_room.specs.Room.{roomVerdict}
-use Rattle.run_sets.proofs.Finishing.{stop, finish, need-of, room-by-cap, some-side, roomy}
+use Rattle.run_sets.proofs.Finishing.{stop, finish, need-of, room-by-cap, some-window, roomy}
 use Rattle.run_sets.proofs.run_scan.Statement.{statement}
 use Rattle.run_sets.proofs.run_scan.Tie as tie
 
@@ -50,7 +50,7 @@ window-requires c κs = search needs
 
 need-requires : tie.Need-need-requires
 need-requires c κs =
-    let s = c .before .before .before .before .before .before .before .before .before .before in (subst (λ (v : ℕ). 0 < v) (sym (c .window .ensures)) (some-side (s .pre .1 .1 .1)), s .pre .1 .1 .0)
+    let s = c .before .before .before .before .before .before .before .before .before .before in (subst (λ (v : ℕ). 0 < v) (sym (c .window .ensures)) (some-window (s .pre .1 .1 .1)), s .pre .1 .1 .0)
 
 check-room-requires : tie.Need-check-room-requires
 check-room-requires c κs = search needs

@@ -27,8 +27,8 @@ slice-aggregate-fill-bonds-2 c = search needs
 fill-bonds-requires-2 : tie.Need-fill-bonds-requires-2
 fill-bonds-requires-2 c κs = search needs
 
-run-array-requires : tie.Need-run-array-requires
-run-array-requires c κs = search needs
+run-sites-requires : tie.Need-run-sites-requires
+run-sites-requires c κs = search needs
 
 same-length : tie.Need-same-length
 same-length c = search needs
@@ -52,7 +52,7 @@ returns c =
     let majors = first .fill-bonds .ensures ∙ ap bonds (rows .by-rows .ensures) in
     let sides = second .fill-bonds2 .ensures ∙ ap (λ (b : Bool). bonds (not b)) (rows .by-rows .ensures) in
     ran-same (λ (major side : List Float). runScan (window (z .rows) (z .cols)) (now (a .scan)) (siteTable z (now (a .strand-glues)) (now (a .scaffold)) (now (a .delta-g)) (now (a .entropy)) (now (a .logs))) major side)
-    (z .rows) (z .cols) (call .run-array .result) (now (a .layout)) _ (now (a .energies)) _ (now (a .notes)) _ majors sides (call .run-array .ensures)
+    (z .rows) (z .cols) (call .run-sites .result) (now (a .layout)) _ (now (a .energies)) _ (now (a .notes)) _ majors sides (call .run-sites .ensures)
 
 pub run-system-spec : {M : Type 1} → statement M
 run-system-spec =
@@ -63,7 +63,7 @@ run-system-spec =
     fill-bonds-requires
     slice-aggregate-fill-bonds-2
     fill-bonds-requires-2
-    run-array-requires
+    run-sites-requires
     same-length
     same-length-2
     same-length-3

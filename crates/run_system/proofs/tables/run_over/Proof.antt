@@ -37,7 +37,7 @@ returns c =
     let s = w .before .before .before .before .before .before .before in
     let a = s .args in
     ran-bad (a .rows) (a .cols) (w .window .result) (now (a .scan)) (now (a .sites)) (now (a .major)) (now (a .side)) (w .window .ensures) (s .pre .1 .0 .scanned)
-    (now (a .energies)) (now (a .notes)) (ran .run .ensures .0) (ran .run .ensures .1 .1 .0) (ran .run .ensures .1 .1 .1) (now (a .layout)) (c .before .no-energy .ensures) (c .if1 .taken)
+    (ran .run .ensures) (now (a .layout)) (c .before .no-energy .ensures) (c .if1 .taken)
 
 lay-out-requires : tie.Need-lay-out-requires
 lay-out-requires c κs = search needs
@@ -61,7 +61,7 @@ returns-2 c =
     let s = w .before .before .before .before .before .before .before in
     let a = s .args in
     ran-good (a .rows) (a .cols) (w .window .result) (now (a .scan)) (now (a .sites)) (now (a .major)) (now (a .side)) (w .window .ensures) (s .pre .1 .0 .scanned)
-    (now (a .energies)) (now (a .notes)) (ran .run .ensures .0) (ran .run .ensures .1 .1 .0) (ran .run .ensures .1 .1 .1) (now (a .layout)) _ (now (a .order)) _ (c .before .before .before .before .before .before .no-energy .ensures) (c .before .before .before .before .before .if1 .left) (ran .run .ensures .1 .0) (c .before .before .lay-out .ensures)
+    (ran .run .ensures) (now (a .layout)) _ (c .before .before .before .before .before .before .no-energy .ensures) (c .before .before .before .before .before .if1 .left) (c .before .before .lay-out .ensures)
 
 pub run-over-spec : {M : Type 1} → statement M
 run-over-spec =
