@@ -43,14 +43,8 @@ module _ (l : tie.At-loop Inv-loop μ-loop) where
   room h =
       line-writable (l .loop .inv .1) h
 
-size-requires : tie.Need-size-requires Inv-loop μ-loop
-size-requires c κs = search needs
-
 cast-count : tie.Need-cast-count Inv-loop μ-loop
 cast-count c = omega (arith, c .size .ensures, length-le (has (c .before .before .before .before .args .bay .set)) mostStrands)
-
-next-requires : tie.Need-next-requires Inv-loop μ-loop
-next-requires c κs = search needs
 
 loop-holds : tie.Need-loop-holds Inv-loop μ-loop
 loop-holds c =
@@ -111,9 +105,9 @@ put-bay-spec =
     (tie.spec
     Inv-loop
     μ-loop
-    size-requires
+    (λ c κs. search needs)
     cast-count
-    next-requires
+    (λ c κs. search needs)
     loop-holds
     cast-put-line
     put-line-requires

@@ -61,12 +61,6 @@ loop-holds c =
     let s = c .before .before .before in
     line-starts (s .args .bay .set) (s .args .at) (rowsOf s) (now (s .args .energies)) (now (s .args .notes)) (s .pre .1 .energies-fit) (s .pre .1 .notes-fit)
 
-is-empty-requires : tie.Need-is-empty-requires Inv-loop μ-loop
-is-empty-requires c κs = search needs
-
-first-requires : tie.Need-first-requires Inv-loop μ-loop
-first-requires c κs = search needs
-
 cast-t : tie.Need-cast-t Inv-loop μ-loop
 cast-t c = omega (arith, strand-next c)
 
@@ -139,9 +133,6 @@ cast-notes c =
 slice-write-notes : tie.Need-slice-write-notes Inv-loop μ-loop
 slice-write-notes c = notes-next (c .before .before .before .before .before .before)
 
-rest-requires : tie.Need-rest-requires Inv-loop μ-loop
-rest-requires c κs = search needs
-
 add-j : tie.Need-add-j Inv-loop μ-loop
 add-j c =
     let turn = c .before .before .before .before .before .before .before in
@@ -174,8 +165,8 @@ put-line-spec =
     Inv-loop
     μ-loop
     loop-holds
-    is-empty-requires
-    first-requires
+    (λ c κs. search needs)
+    (λ c κs. search needs)
     cast-t
     own-of-requires
     mul-row
@@ -187,7 +178,7 @@ put-line-spec =
     slice-write-energies
     cast-notes
     slice-write-notes
-    rest-requires
+    (λ c κs. search needs)
     add-j
     loop-less
     loop-again

@@ -8,12 +8,6 @@ use Rattle.ledger_fill.proofs.Sizes.{product-small}
 use Rattle.ledger_fill.proofs.rows_of.Statement.{statement}
 use Rattle.ledger_fill.proofs.rows_of.Tie as tie
 
-size-requires : tie.Need-size-requires
-size-requires c κs = search needs
-
-cast-result : tie.Need-cast-result
-cast-result c = search needs
-
 mul-result : tie.Need-mul-result
 mul-result c =
     let s = c .before .before in
@@ -25,4 +19,4 @@ returns : tie.Need-returns
 returns c = ap (λ n. c .before .before .args .bay .width * n) (c .before .size .ensures)
 
 pub rows-of-spec : {M : Type 1} → statement M
-rows-of-spec = tie.close (tie.spec size-requires cast-result mul-result returns)
+rows-of-spec = tie.close (tie.spec (λ c κs. search needs) (λ c. search needs) mul-result returns)

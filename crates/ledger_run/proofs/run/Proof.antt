@@ -60,9 +60,6 @@ bad c = subst (λ x. lt (inf true) x ≡ false) (is-answer (c .before .before)) 
 good : (c : tie.Else1) → lt (inf true) (answer (scan (before (c .before .before))) (bays (before (c .before .before)))) ≡ true
 good c = subst (λ x. lt (inf true) x ≡ true) (is-answer (c .before .before)) (not-false _ (sym (c .before .is-bad .ensures) ∙ c .if1 .left))
 
-fill-requires : tie.Need-fill-requires
-fill-requires c κs = search needs
-
 mul-least-row : tie.Need-mul-least-row
 mul-least-row c =
     let f = c .before .before .before .before in
@@ -80,20 +77,11 @@ part-least-row-end c = in-filled (c .before .before .before .before .before)
 least-row-requires : tie.Need-least-row-requires
 least-row-requires c κs = last-some (ran (c .before .before .before .before .before .before))
 
-is-bad-requires : tie.Need-is-bad-requires
-is-bad-requires c κs = search needs
-
 clear-energies-requires : tie.Need-clear-energies-requires
 clear-energies-requires c κs = in-filled (c .before .before .before .before .before .before .before .before .before .before)
 
 clear-notes-requires : tie.Need-clear-notes-requires
 clear-notes-requires c κs = in-noted (c .before .before .before .before .before .before .before .before .before .before .before .before .before .before)
-
-same-length : tie.Need-same-length
-same-length c = search needs
-
-same-length-2 : tie.Need-same-length-2
-same-length-2 c = search needs
 
 returns : tie.Need-returns
 returns c =
@@ -111,15 +99,6 @@ trace-requires c κs =
     let f = before best in
     (traceable (ran f), (start f .pre .1 .1, (answer-place (ran f) _ (best-is best), answer-row-in (ran f) _ (best-is best))))
 
-same-length-3 : tie.Need-same-length-3
-same-length-3 c = search needs
-
-same-length-4 : tie.Need-same-length-4
-same-length-4 c = search needs
-
-same-length-5 : tie.Need-same-length-5
-same-length-5 c = search needs
-
 returns-2 : tie.Need-returns-2
 returns-2 c =
     let best = c .before .before .before .before .before .before .before in
@@ -132,21 +111,21 @@ pub run-spec : {M : Type 1} → statement M
 run-spec =
     tie.close
     (tie.spec
-    fill-requires
+    (λ c κs. search needs)
     mul-least-row
     sub-least-row
     part-least-row-start
     part-least-row-end
     least-row-requires
-    is-bad-requires
+    (λ c κs. search needs)
     clear-energies-requires
     clear-notes-requires
-    same-length
-    same-length-2
+    (λ c. search needs)
+    (λ c. search needs)
     returns
     sub-t18
     trace-requires
-    same-length-3
-    same-length-4
-    same-length-5
+    (λ c. search needs)
+    (λ c. search needs)
+    (λ c. search needs)
     returns-2)

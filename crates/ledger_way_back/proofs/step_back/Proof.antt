@@ -61,18 +61,6 @@ product c = subst (λ w. c .position .result * w ≤ mostRows * mostStrands) (sy
 leaves : (c : tie.After-size2) → c .size2 .result ≡ length (strandsOf (leavingAt (start (sized (c .before .before)))))
 leaves c = c .size2 .ensures ∙ ap (λ l. length (strandsOf l)) (c .before .before .before .before .before .leaving .ensures)
 
-mul-set : tie.Need-mul-set
-mul-set c = search needs
-
-shared-slice-read-set : tie.Need-shared-slice-read-set
-shared-slice-read-set c = search needs
-
-size-requires : tie.Need-size-requires
-size-requires c κs = search needs
-
-cast-count : tie.Need-cast-count
-cast-count c = search needs
-
 div-width : tie.Need-div-width
 div-width c = count-pos (c .before)
 
@@ -84,20 +72,8 @@ add-place c =
     let s = start (c .before .before .before) in
     omega (arith, place-in (on s), s .good .1 .1 .0 .0)
 
-leaving-requires : tie.Need-leaving-requires
-leaving-requires c κs = search needs
-
 shared-slice-read-noted-strand : tie.Need-shared-slice-read-noted-strand
 shared-slice-read-noted-strand c = place-in (on (start (c .before .before .before .before .before)))
-
-noted-strand-requires : tie.Need-noted-strand-requires
-noted-strand-requires c κs = search needs
-
-position-requires : tie.Need-position-requires
-position-requires c κs = search needs
-
-cast-position : tie.Need-cast-position
-cast-position c = search needs
 
 mul-t13 : tie.Need-mul-t13
 mul-t13 c = omega (arith, product c)
@@ -109,12 +85,6 @@ add-t21 : tie.Need-add-t21
 add-t21 c =
     let n = sized (c .before) in
     omega (arith, product (c .before), row-few (on (start n)) (n .size .result))
-
-size-requires-2 : tie.Need-size-requires-2
-size-requires-2 c κs = search needs
-
-cast-t22 : tie.Need-cast-t22
-cast-t22 c = search needs
 
 mul-t23 : tie.Need-mul-t23
 mul-t23 c =
@@ -134,22 +104,22 @@ pub step-back-spec : {M : Type 1} → statement M
 step-back-spec =
     tie.close
     (tie.spec
-    mul-set
-    shared-slice-read-set
-    size-requires
-    cast-count
+    (λ c. search needs)
+    (λ c. search needs)
+    (λ c κs. search needs)
+    (λ c. search needs)
     div-width
     sub-from
     add-place
-    leaving-requires
+    (λ c κs. search needs)
     shared-slice-read-noted-strand
-    noted-strand-requires
-    position-requires
-    cast-position
+    (λ c κs. search needs)
+    (λ c κs. search needs)
+    (λ c. search needs)
     mul-t13
     div-t20
     add-t21
-    size-requires-2
-    cast-t22
+    (λ c κs. search needs)
+    (λ c. search needs)
     mul-t23
     returns)

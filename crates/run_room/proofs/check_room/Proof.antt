@@ -5,17 +5,8 @@ use borrow.Author.Tests.{lt-ltb, le-ltb}
 use Rattle.run_room.proofs.check_room.Statement.{statement}
 use Rattle.run_room.proofs.check_room.Tie as tie
 
-refused-requires : tie.Need-refused-requires
-refused-requires c κs = search needs
-
 returns : tie.Need-returns
 returns c = rw (lt-ltb _ _ (c .before .if1 .taken)) (c .refused .ensures)
-
-too-short-requires : tie.Need-too-short-requires
-too-short-requires c κs = search needs
-
-refused-with-requires : tie.Need-refused-with-requires
-refused-with-requires c κs = search needs
 
 returns-2 : tie.Need-returns-2
 returns-2 c =
@@ -31,9 +22,9 @@ pub check-room-spec : {M : Type 1} → statement M
 check-room-spec =
     tie.close
     (tie.spec
-    refused-requires
+    (λ c κs. search needs)
     returns
-    too-short-requires
-    refused-with-requires
+    (λ c κs. search needs)
+    (λ c κs. search needs)
     returns-2
     returns-3)

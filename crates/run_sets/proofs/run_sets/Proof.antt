@@ -35,12 +35,6 @@ room f =
 long : (f : tie.After-fill-scan) → length (take (bays f) (written f)) ≡ bays f
 long f = length-take-le (bays f) (written f) (room f)
 
-mul-bays : tie.Need-mul-bays
-mul-bays c = search needs
-
-slice-aggregate-fill-scan : tie.Need-slice-aggregate-fill-scan
-slice-aggregate-fill-scan c = search needs
-
 fill-scan-requires : tie.Need-fill-scan-requires
 fill-scan-requires c κs =
     let s = c .before .before .before .before .before .before .before .before .before .before .before in
@@ -61,15 +55,6 @@ run-scan-requires c κs =
     let each = subst (λ (l : List ℕ). EachHasStrand (setScan side l) (bays f)) (sym (f .fill-scan .ensures)) (s .pre .1 .1 .0) in
     (s .pre .0, (s .pre .1 .0, ((λ k h. each k (subst (λ (n : ℕ). k < n) (long f) h)), front-board (s .pre .1 .1 .1 .0) (long f))))
 
-same-length : tie.Need-same-length
-same-length c = search needs
-
-same-length-2 : tie.Need-same-length-2
-same-length-2 c = search needs
-
-same-length-3 : tie.Need-same-length-3
-same-length-3 c = search needs
-
 returns : tie.Need-returns
 returns c =
     let call = c .before .before .before .before .before .before in
@@ -85,13 +70,13 @@ pub run-sets-spec : {M : Type 1} → statement M
 run-sets-spec =
     tie.close
     (tie.spec
-    mul-bays
-    slice-aggregate-fill-scan
+    (λ c. search needs)
+    (λ c. search needs)
     fill-scan-requires
     array-share-prefix-scan
     slice-aggregate-run-scan
     run-scan-requires
-    same-length
-    same-length-2
-    same-length-3
+    (λ c. search needs)
+    (λ c. search needs)
+    (λ c. search needs)
     returns)

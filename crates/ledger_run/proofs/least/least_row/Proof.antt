@@ -22,14 +22,8 @@ shared-slice-read-t5 c = c .before .before .pre
 loop-holds : tie.Need-loop-holds Inv-loop μ-loop
 loop-holds c = (omega (arith, c .before .before .pre), least-starts (now (c .before .before .args .block)) (c .before .before .pre))
 
-mul-t6 : tie.Need-mul-t6 Inv-loop μ-loop
-mul-t6 c = search needs
-
 shared-slice-read-t9 : tie.Need-shared-slice-read-t9 Inv-loop μ-loop
 shared-slice-read-t9 c = omega arith
-
-lower-requires : tie.Need-lower-requires Inv-loop μ-loop
-lower-requires c κs = search needs
 
 add-i : tie.Need-add-i Inv-loop μ-loop
 add-i c = omega arith
@@ -59,9 +53,9 @@ least-row-spec =
     μ-loop
     shared-slice-read-t5
     loop-holds
-    mul-t6
+    (λ c. search needs)
     shared-slice-read-t9
-    lower-requires
+    (λ c κs. search needs)
     add-i
     loop-less
     loop-again

@@ -33,9 +33,6 @@ fill-sites-requires c κs =
     let on = s .pre .1 .1 .1 in
     (s .pre .0, (s .pre .1 .0, omega (arith, c .fill-sites-arg .given .0 .1, mul-le-mul (on .few-rows) (on .few-cols))))
 
-slice-aggregate-run-fronts : tie.Need-slice-aggregate-run-fronts
-slice-aggregate-run-fronts c = search needs
-
 run-fronts-requires : tie.Need-run-fronts-requires
 run-fronts-requires c κs =
     let filled = c .before .before .before .before .before .before in
@@ -46,15 +43,6 @@ run-fronts-requires c κs =
     let bay : ℕ → ℕ → Float = siteEnergy (a .z) (now (a .strand-glues)) (now (a .scaffold)) (now (a .delta-g)) (now (a .entropy)) (now (a .logs)) in
     let long = length-tab (λ (i : ℕ). bay (bayAt (a .z .rows) (a .z .cols) (i / mostStrands)) (i % mostStrands)) count in
     (s .pre .1 .1 .0, (on, (few-bays on, omega (arith, front-fits count (written filled) (filled .fill-sites .ensures) long, on .scanned))))
-
-same-length : tie.Need-same-length
-same-length c = search needs
-
-same-length-2 : tie.Need-same-length-2
-same-length-2 c = search needs
-
-same-length-3 : tie.Need-same-length-3
-same-length-3 c = search needs
 
 returns : tie.Need-returns
 returns c =
@@ -72,9 +60,9 @@ run-sites-spec =
     tie.close
     (tie.spec
     fill-sites-requires
-    slice-aggregate-run-fronts
+    (λ c. search needs)
     run-fronts-requires
-    same-length
-    same-length-2
-    same-length-3
+    (λ c. search needs)
+    (λ c. search needs)
+    (λ c. search needs)
     returns)
