@@ -88,8 +88,8 @@ pub struct Last {
     pub end: usize,
 }
 
-// Writes all blocks from place 0 on, one behind the other, and answers where the last one stands. The energies of bay k's strands stand
-// in `bays` from its k-th row on, a row having a place for each strand that a system may have.
+// Writes all blocks from place 0 on, one behind the other, and answers where the last one stands. Row k of `bays`, which
+// has a place for each strand that a system may have, holds the energies of bay k's strands.
 pub fn fill(
     window: usize,
     sets: &[u64],

@@ -65,12 +65,6 @@ add-past c = omega (arith, bay-inside (c .before .before) (c .before .loop-test 
 mul-put-bay : tie.Need-mul-put-bay Inv-loop μ-loop
 mul-put-bay c = omega (arith, bay-inside (c .before .before) (c .before .loop-test .taken), start (c .before .before) .good .1 .1 .0 .1)
 
-sub-put-bay : tie.Need-sub-put-bay Inv-loop μ-loop
-sub-put-bay c = omega arith
-
-part-put-bay-start : tie.Need-part-put-bay-start Inv-loop μ-loop
-part-put-bay-start c = omega arith
-
 part-put-bay-end : tie.Need-part-put-bay-end Inv-loop μ-loop
 part-put-bay-end c = bay-inside (c .before .before) (c .before .loop-test .taken)
 
@@ -140,8 +134,8 @@ fill-spec =
     mul-at
     add-past
     mul-put-bay
-    sub-put-bay
-    part-put-bay-start
+    (λ c. omega arith)
+    (λ c. omega arith)
     part-put-bay-end
     put-bay-requires
     rows-of-requires

@@ -20,12 +20,6 @@ add-next c =
     let s = l .before .before in
     omega (arith, stepping-small (s .args .set) (s .args .p) (s .pre) (l .loop .t) (l .loop .left) (l .loop .inv))
 
-sub-left : tie.Need-sub-left Inv-loop μ-loop
-sub-left c = omega arith
-
-loop-less : tie.Need-loop-less Inv-loop μ-loop
-loop-less c = omega arith
-
 loop-again : tie.Need-loop-again Inv-loop μ-loop
 loop-again c =
     let l = c .before .before in
@@ -39,4 +33,4 @@ returns c =
     stepping-ends (s .args .set) (s .args .p) (s .pre) (l .loop .t) (l .loop .left) (l .loop .inv) (c .loop-test .left)
 
 pub member-spec : {M : Type 1} → statement M
-member-spec = tie.close (tie.spec Inv-loop μ-loop (λ c κs. search needs) loop-holds add-next (λ c κs. search needs) sub-left loop-less loop-again returns)
+member-spec = tie.close (tie.spec Inv-loop μ-loop (λ c κs. search needs) loop-holds add-next (λ c κs. search needs) (λ c. omega arith) (λ c. omega arith) loop-again returns)

@@ -22,15 +22,6 @@ shared-slice-read-t5 c = c .before .before .pre
 loop-holds : tie.Need-loop-holds Inv-loop μ-loop
 loop-holds c = (omega (arith, c .before .before .pre), least-starts (now (c .before .before .args .block)) (c .before .before .pre))
 
-shared-slice-read-t9 : tie.Need-shared-slice-read-t9 Inv-loop μ-loop
-shared-slice-read-t9 c = omega arith
-
-add-i : tie.Need-add-i Inv-loop μ-loop
-add-i c = omega arith
-
-loop-less : tie.Need-loop-less Inv-loop μ-loop
-loop-less c = omega arith
-
 loop-again : tie.Need-loop-again Inv-loop μ-loop
 loop-again c =
     let turn = c .before .before in
@@ -54,9 +45,9 @@ least-row-spec =
     shared-slice-read-t5
     loop-holds
     (λ c. search needs)
-    shared-slice-read-t9
+    (λ c. omega arith)
     (λ c κs. search needs)
-    add-i
-    loop-less
+    (λ c. omega arith)
+    (λ c. omega arith)
     loop-again
     returns)

@@ -31,15 +31,6 @@ mul-table c =
     let s = turn .before .before .before .before .before .before in
     scaled-fits (turn .before .loop .i) (length (now (s .args .table))) 8 (omega (arith, turn .loop-test .taken, turn .before .loop .inv .2)) (s .good .1 .1 .1 .1 .1 .0 .1)
 
-slice-write-table : tie.Need-slice-write-table Inv-loop μ-loop
-slice-write-table c = omega arith
-
-add-i : tie.Need-add-i Inv-loop μ-loop
-add-i c = omega arith
-
-loop-less : tie.Need-loop-less Inv-loop μ-loop
-loop-less c = omega arith
-
 loop-again : tie.Need-loop-again Inv-loop μ-loop
 loop-again c =
     let turn = c .before in
@@ -71,9 +62,9 @@ fill-bonds-spec =
     loop-holds
     pair-energy-requires
     mul-table
-    slice-write-table
-    add-i
-    loop-less
+    (λ c. omega arith)
+    (λ c. omega arith)
+    (λ c. omega arith)
     loop-again
     same-length
     returns)

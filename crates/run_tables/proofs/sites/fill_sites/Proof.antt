@@ -63,12 +63,6 @@ mul-sites c =
 slice-write-sites : tie.Need-slice-write-sites Inv-loop μ-loop
 slice-write-sites c = room (c .before .before)
 
-add-i : tie.Need-add-i Inv-loop μ-loop
-add-i c = omega arith
-
-loop-less : tie.Need-loop-less Inv-loop μ-loop
-loop-less c = omega arith
-
 loop-again : tie.Need-loop-again Inv-loop μ-loop
 loop-again c =
     let turn = c .before .before in
@@ -104,8 +98,8 @@ fill-sites-spec =
     site-energy-requires
     mul-sites
     slice-write-sites
-    add-i
-    loop-less
+    (λ c. omega arith)
+    (λ c. omega arith)
     loop-again
     same-length
     returns)
