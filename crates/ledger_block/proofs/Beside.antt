@@ -8,6 +8,7 @@ use native.Mathlib.Omega.{arith}
 use lib.Arith.{digits-mod}
 use lib.ListN.{length, getD}
 use borrow.Author.Tests.{lt-ltb, le-ltb}
+use Rattle.units.specs.Limits.{mostStrands}
 use Rattle.sets.specs.Set.{has, nextOf}
 use Rattle.sets.proofs.Members.{member, past}
 use Rattle.sets.proofs.Walk.{start, following}
@@ -26,21 +27,21 @@ rest-again q c pos e =
     let split : q + 1 ≡ (q / c + 1) * c + 0 = omega (arith, div-add-mod' q c) in
     ap (λ i. i % c) split ∙ digits-mod (q / c + 1) pos
 
-pub following-on : (set u v : ℕ) → v ≡ nextOf (has set) (u + 1) 64 → v < 64 → v ≡ followingIn set u
-following-on set u v e h = e ∙ sym (ap (λ b. cond b (nextOf (has set) (u + 1) 64) (nextOf (has set) 0 64)) (lt-ltb (nextOf (has set) (u + 1) 64) 64 (subst (λ t. t < 64) e h)))
+pub following-on : (set u v : ℕ) → v ≡ nextOf (has set) (u + 1) mostStrands → v < mostStrands → v ≡ followingIn set u
+following-on set u v e h = e ∙ sym (ap (λ b. cond b (nextOf (has set) (u + 1) mostStrands) (nextOf (has set) 0 mostStrands)) (lt-ltb (nextOf (has set) (u + 1) mostStrands) mostStrands (subst (λ t. t < mostStrands) e h)))
 
-pub following-round : (set u v w : ℕ) → v ≡ nextOf (has set) (u + 1) 64 → 64 ≤ v → w ≡ nextOf (has set) 0 64 → w ≡ followingIn set u
-following-round set u v w e h f = f ∙ sym (ap (λ b. cond b (nextOf (has set) (u + 1) 64) (nextOf (has set) 0 64)) (le-ltb (nextOf (has set) (u + 1) 64) 64 (subst (λ t. 64 ≤ t) e h)))
+pub following-round : (set u v w : ℕ) → v ≡ nextOf (has set) (u + 1) mostStrands → mostStrands ≤ v → w ≡ nextOf (has set) 0 mostStrands → w ≡ followingIn set u
+following-round set u v w e h f = f ∙ sym (ap (λ b. cond b (nextOf (has set) (u + 1) mostStrands) (nextOf (has set) 0 mostStrands)) (le-ltb (nextOf (has set) (u + 1) mostStrands) mostStrands (subst (λ t. mostStrands ≤ t) e h)))
 
 module _ (set : ℕ) (some : 0 < length (strandsOf set)) where
-  pub beside-small : (q : ℕ) → besideAt set q < 64
-  beside-small q = member (has set) 64 (q % length (strandsOf set)) 0 (mod-lt q some) .below
+  pub beside-small : (q : ℕ) → besideAt set q < mostStrands
+  beside-small q = member (has set) mostStrands (q % length (strandsOf set)) 0 (mod-lt q some) .below
 
   -- the first strand is on the previous bay in the first row
-  pub beside-first : (u : ℕ) → u ≡ nextOf (has set) 0 64 → u ≡ besideAt set 0
+  pub beside-first : (u : ℕ) → u ≡ nextOf (has set) 0 mostStrands → u ≡ besideAt set 0
   beside-first u e =
       let none : 0 % length (strandsOf set) ≡ 0 = ap (λ i. i % length (strandsOf set)) (omega arith) ∙ digits-mod 0 some in
-      start (has set) 64 u e .here ∙ any-default (strandsOf set) 0 64 0 some ∙ ap (λ p. getD (strandsOf set) p 0) (sym none)
+      start (has set) mostStrands u e .here ∙ any-default (strandsOf set) 0 mostStrands 0 some ∙ ap (λ p. getD (strandsOf set) p 0) (sym none)
 
   -- and from row to row it is the following one
   pub beside-next : (q u v : ℕ) → u ≡ besideAt set q → v ≡ followingIn set u → v ≡ besideAt set (q + 1)
@@ -51,21 +52,21 @@ module _ (set : ℕ) (some : 0 < length (strandsOf set)) where
           let c = length (strandsOf set) in
           let inside : p < c = subst (λ i. i < c) same (mod-lt q some) in
           let here : u ≡ getD (strandsOf set) p 0 = e ∙ ap (λ i. getD (strandsOf set) i 0) same in
-          let goes : nextOf (has set) (u + 1) 64 ≡ getD (strandsOf set) (p + 1) 64 =
-          ap (λ t. nextOf (has set) (t + 1) 64) here ∙ following (has set) 64 p (getD (strandsOf set) p 0) (member (has set) 64 p 0 inside) in
+          let goes : nextOf (has set) (u + 1) mostStrands ≡ getD (strandsOf set) (p + 1) mostStrands =
+          ap (λ t. nextOf (has set) (t + 1) mostStrands) here ∙ following (has set) mostStrands p (getD (strandsOf set) p 0) (member (has set) mostStrands p 0 inside) in
           elim d [
             | yes h ↦
-                let x = goes ∙ any-default (strandsOf set) (p + 1) 64 0 h in
+                let x = goes ∙ any-default (strandsOf set) (p + 1) mostStrands 0 h in
                 f
-                ∙ sym (following-on set u (nextOf (has set) (u + 1) 64) refl (subst (λ t. t < 64) (sym x) (member (has set) 64 (p + 1) 0 h .below)))
+                ∙ sym (following-on set u (nextOf (has set) (u + 1) mostStrands) refl (subst (λ t. t < mostStrands) (sym x) (member (has set) mostStrands (p + 1) 0 h .below)))
                 ∙ x
                 ∙ ap (λ i. getD (strandsOf set) i 0) (ap (λ i. i + 1) (sym same) ∙ sym (rest-more q c some (subst (λ i. i + 1 < c) (sym same) h)))
             | no h ↦
                 let last : p + 1 ≡ c = omega arith in
-                let large : 64 ≤ nextOf (has set) (u + 1) 64 = omega (arith, goes, past (has set) 64 (p + 1) 64 (omega arith)) in
+                let large : mostStrands ≤ nextOf (has set) (u + 1) mostStrands = omega (arith, goes, past (has set) mostStrands (p + 1) mostStrands (omega arith)) in
                 f
-                ∙ sym (following-round set u (nextOf (has set) (u + 1) 64) (nextOf (has set) 0 64) refl large refl)
-                ∙ start (has set) 64 (nextOf (has set) 0 64) refl .here
-                ∙ any-default (strandsOf set) 0 64 0 some
+                ∙ sym (following-round set u (nextOf (has set) (u + 1) mostStrands) (nextOf (has set) 0 mostStrands) refl large refl)
+                ∙ start (has set) mostStrands (nextOf (has set) 0 mostStrands) refl .here
+                ∙ any-default (strandsOf set) 0 mostStrands 0 some
                 ∙ ap (λ i. getD (strandsOf set) i 0) (sym (rest-again q c some (ap (λ i. i + 1) same ∙ last)))
           ]

@@ -6,6 +6,7 @@ use native.Mathlib.Nat.{mul-le-mul-right}
 use native.Mathlib.Omega.{arith}
 use lib.Ieee.{Float}
 use lib.ListN.{length, getD}
+use Rattle.units.specs.Limits.{mostStrands}
 use Rattle.floats.specs.declared.Choice.{Choice}
 use Rattle.sets.specs.Set.{has, nextOf}
 use Rattle.ledger_rows.specs.Blocks.{flat}
@@ -75,7 +76,7 @@ pub record Blocking (b : Bay) (here major side : List Float) (from end : ℕ) (e
   pub notes-are : Written (λ c. c .who) b here major side (part from end energies₀) notes₀ notes end q
 
 pub block-starts : (b : Bay) (here major side : List Float) (from end : ℕ) (energies₀ : List Float) (notes₀ : List ℕ) (u : ℕ) → 0 < length (strandsOf (b .previous))
-    → Writable b from end end (b .width * length (strandsOf (b .set))) (length energies₀) (length notes₀) → u ≡ nextOf (has (b .previous)) 0 64
+    → Writable b from end end (b .width * length (strandsOf (b .set))) (length energies₀) (length notes₀) → u ≡ nextOf (has (b .previous)) 0 mostStrands
     → Blocking b here major side from end energies₀ energies₀ notes₀ notes₀ u end 0
 block-starts b here major side from end energies₀ notes₀ u some fit e =
     record {
@@ -99,8 +100,8 @@ module _ {b : Bay} {here major side : List Float} {from end : ℕ} {energies₀ 
   pub notes-kept : length notes ≡ length notes₀
   notes-kept = written-long (l .notes-are) (omega (arith, done-fit, l .fit .notes-fit))
 
-  pub block-small : u < 64
-  block-small = subst (λ t. t < 64) (sym (l .beside)) (beside-small (b .previous) (l .some) q)
+  pub block-small : u < mostStrands
+  block-small = subst (λ t. t < mostStrands) (sym (l .beside)) (beside-small (b .previous) (l .some) q)
 
   pub line-writable : q < b .width → Writable b from end at (length (strandsOf (b .set))) (length energies) (length notes)
   line-writable h =

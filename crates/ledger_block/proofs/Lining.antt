@@ -8,6 +8,7 @@ use native.Mathlib.Omega.{arith}
 use lib.Ieee.{Float, nan}
 use lib.Dec.{eqb}
 use lib.ListN.{length, getD, set}
+use Rattle.units.specs.Limits.{mostStrands}
 use Rattle.floats.specs.declared.Choice.{Choice}
 use Rattle.sets.specs.Set.{has, word, nextOf, restOf}
 use Rattle.sets.proofs.Members.{member}
@@ -21,18 +22,18 @@ use Rattle.ledger_block.specs.Block.{over, part}
 use Rattle.ledger_block.proofs.Over.{over-none, length-over, over-store}
 
 -- a noted strand is below 64
-pub who-small : (own : Own) (major before : List Float) (leaving width q : ℕ) → 0 < length (strandsOf leaving) → ownRow own major before leaving width q .who < 64
+pub who-small : (own : Own) (major before : List Float) (leaving width q : ℕ) → 0 < length (strandsOf leaving) → ownRow own major before leaving width q .who < mostStrands
 who-small own major before leaving width q some =
     let next = candidateFrom before width (strandsOf leaving) (λ a s. ownAdds own major s) q in
     let found = chosen next (length (strandsOf leaving)) some in
-    subst (λ s. s < 64) (sym (ap (λ (c : Choice). c .who) (found .1 .held))) (member (has leaving) 64 (found .0) 0 (found .1 .within) .below)
+    subst (λ s. s < mostStrands) (sym (ap (λ (c : Choice). c .who) (found .1 .held))) (member (has leaving) mostStrands (found .0) 0 (found .1 .within) .below)
 
 -- the rows of the first `count` strands are written from `at` on, the strands of `left` are still to come, and j is the next place
 pub record Lining (line at : ℕ) (f : ℕ → Choice) (energies₀ energies : List Float) (notes₀ notes : List ℕ) (left j : ℕ) : Type 0 where
   pub energies-fit : at + length (strandsOf line) ≤ length energies₀
   pub notes-fit : at + length (strandsOf line) ≤ length notes₀
   pub count : ℕ
-  pub walks : Left 64 line count left
+  pub walks : Left mostStrands line count left
   pub place : j ≡ at + count
   pub energies-are : energies ≡ over energies₀ at (tab (λ p. f p .energy) count)
   pub notes-are : notes ≡ over notes₀ at (tab (λ p. f p .who) count)
@@ -44,7 +45,7 @@ line-starts line at f energies₀ notes₀ fit fit-too =
       energies-fit = fit;
       notes-fit = fit-too;
       count = 0;
-      walks = all-left 64 line;
+      walks = all-left mostStrands line;
       place = sym (add-zero at);
       energies-are = sym (ap (over energies₀ at) (tab-none (λ p. f p .energy)) ∙ over-none energies₀ at);
       notes-are = sym (ap (over notes₀ at) (tab-none (λ p. f p .who)) ∙ over-none notes₀ at);
@@ -67,16 +68,16 @@ module _ {line at : ℕ} {f : ℕ → Choice} {energies₀ energies : List Float
     notes-room = omega (arith, l .place, taken (l .walks) more .in-list, notes-long, l .notes-fit)
 
     -- the strand at the next position is the first that is left
-    pub line-strand : {t : ℕ} → t ≡ nextOf (has left) 0 64 → t ≡ getD (strandsOf line) (l .count) 0
+    pub line-strand : {t : ℕ} → t ≡ nextOf (has left) 0 mostStrands → t ≡ getD (strandsOf line) (l .count) 0
     line-strand e = e ∙ taken (l .walks) more .here
 
-    pub line-small : {t : ℕ} → t ≡ nextOf (has left) 0 64 → t < 64
+    pub line-small : {t : ℕ} → t ≡ nextOf (has left) 0 mostStrands → t < mostStrands
     line-small e = omega (arith, e, taken (l .walks) more .below)
 
-    pub line-fewer : {rest : ℕ} → rest ≡ word (restOf (has left) 64) 64 → length (strandsOf rest) < length (strandsOf left)
+    pub line-fewer : {rest : ℕ} → rest ≡ word (restOf (has left) mostStrands) mostStrands → length (strandsOf rest) < length (strandsOf left)
     line-fewer {rest} made = taken (l .walks) more .goes-on rest made .1
 
-    pub line-turns : {rest : ℕ} (best : Choice) → rest ≡ word (restOf (has left) 64) 64 → best ≡ f (l .count)
+    pub line-turns : {rest : ℕ} (best : Choice) → rest ≡ word (restOf (has left) mostStrands) mostStrands → best ≡ f (l .count)
         → Lining line at f energies₀ (set energies j (best .energy)) notes₀ (set notes j (best .who)) rest (j + 1)
     line-turns {rest} best made e =
         let t = taken (l .walks) more in

@@ -5,6 +5,7 @@ use Prim.Native.Nat.{ℕ, _+_, _-_, _%_, _≤_, _<_}
 use lib.Dec.{ltb}
 use lib.Ieee.{Float, nan}
 use lib.ListN.{length, getD, take, drop}
+use Rattle.units.specs.Limits.{mostRows, mostStrands}
 use Rattle.floats.specs.declared.Choice.{Choice}
 use Rattle.sets.specs.Set.{has, nextOf}
 use Rattle.ledger_rows.specs.Blocks.{tab, flat}
@@ -22,7 +23,7 @@ part from end l = take (end - from) (drop from l)
 
 -- `count` rows fit both tables at `at`, behind the block before, and the bay's numbers are small enough to count with
 pub record Writable (b : Bay) (from end at count energies notes : ℕ) : Type 0 where
-  pub small : b .width ≤ 1048576
+  pub small : b .width ≤ mostRows
   pub some-leave : 0 < length (strandsOf (b .leaving))
   pub from-end : from ≤ end
   pub behind : end ≤ at
@@ -44,7 +45,7 @@ besideAt previous q = getD (strandsOf previous) (q % length (strandsOf previous)
 
 -- the strand behind u in a set, and the first one behind the last
 abbrev pub followingIn : (set u : ℕ) → ℕ
-followingIn set u = cond (ltb (nextOf (has set) (u + 1) 64) 64) (nextOf (has set) (u + 1) 64) (nextOf (has set) 0 64)
+followingIn set u = cond (ltb (nextOf (has set) (u + 1) mostStrands) mostStrands) (nextOf (has set) (u + 1) mostStrands) (nextOf (has set) 0 mostStrands)
 
 -- one part of the rows of the bay's block
 abbrev pub bayBlock : {A : Type 0} → (Choice → A) → Bay → (row major side before : List Float) → List A

@@ -8,6 +8,7 @@ use native.Mathlib.Omega.{arith}
 use lib.Ieee.{Float}
 use lib.ListN.{length, take, drop, length-append, length-drop}
 use lib.Seq.{take-at, drop-at, length-take-le}
+use Rattle.units.specs.Limits.{mostRows, mostStrands}
 use Rattle.floats.specs.declared.Choice.{Choice}
 use Rattle.ledger_rows.specs.Scan.{Scan}
 use Rattle.ledger_rows.specs.Blocks.{flat, size, blockOf, energies, notes, need, energyTable, noteTable}
@@ -17,8 +18,8 @@ use Rattle.ledger_rows.proofs.Rows.{length-energies, length-notes}
 use Rattle.ledger_rows.proofs.Tables.{length-energy-table, length-note-table}
 use Rattle.ledger_block.specs.declared.Bay.{Bay}
 use Rattle.ledger_row_choice.specs.Row.{strandsOf}
-use Rattle.ledger_fill.specs.Handed.{addedOf, setScan, runScan, Fillable}
-use Rattle.ledger_fill.specs.Last.{lastOf}
+use Rattle.ledger_fill.specs.Handed.{addedOf, setScan, bayRow, runScan, Fillable}
+use Rattle.ledger_fill.specs.Last.{lastOf, LedgerFilled}
 use Rattle.ledger_block.specs.Block.{over, part, Writable, bayBlock}
 use Rattle.ledger_fill.specs.Bays.{leavingOf, bayOf}
 use Rattle.ledger_block.proofs.Over.{over-none, length-over, over-over}
@@ -79,13 +80,10 @@ module _ (z : Scan) where
   next-notes k = refl
 
 -- ---- the turn
-abbrev bayRows : List Float → ℕ → List Float
-bayRows bays k = take 64 (drop (k * 64) bays)
-
 -- the blocks of the first k bays are written; the last of them stands from `from` to `end`
 pub record Filling (window : ℕ) (sets : List ℕ) (bays major side energies₀ energies′ : List Float) (notes₀ notes′ : List ℕ) (rows from end k : ℕ) : Type 0 where
   pub fit : Fillable window sets bays (length energies₀) (length notes₀)
-  pub counting : Counting window sets (bayRows bays) major side (length sets) k rows end
+  pub counting : Counting window sets (bayRow bays) major side (length sets) k rows end
   pub last : from + length (energies (runScan window sets bays major side) k) ≡ end
   pub energies-are : energies′ ≡ over energies₀ 0 (energyTable (runScan window sets bays major side) k)
   pub notes-are : notes′ ≡ over notes₀ 0 (noteTable (runScan window sets bays major side) k)
@@ -96,7 +94,7 @@ filling-starts window sets bays major side energies₀ notes₀ fit =
     let z = runScan window sets bays major side in
     record {
       fit = fit;
-      counting = counting-starts window sets (bayRows bays) major side (length sets) (fit .some-window) (fit .filled);
+      counting = counting-starts window sets (bayRow bays) major side (length sets) (fit .room .some-window) (fit .room .filled);
       last = omega (arith, no-energies z);
       energies-are = sym (ap (over energies₀ 0) (energy-table-none z) ∙ over-none energies₀ 0);
       notes-are = sym (ap (over notes₀ 0) (note-table-none z) ∙ over-none notes₀ 0);
@@ -114,27 +112,27 @@ module _ {window : ℕ} {sets : List ℕ} {bays major side energies₀ energies�
   so-far = omega (arith, same-need, need-mono z k (length sets) (l .counting .within))
 
   pub energies-whole : length energies′ ≡ length energies₀
-  energies-whole = ap length (l .energies-are) ∙ length-over energies₀ 0 (energyTable z k) (omega (arith, length-energy-table z k, so-far, l .fit .energies-fit))
+  energies-whole = ap length (l .energies-are) ∙ length-over energies₀ 0 (energyTable z k) (omega (arith, length-energy-table z k, so-far, l .fit .room .energies-fit))
 
   pub notes-whole : length notes′ ≡ length notes₀
-  notes-whole = ap length (l .notes-are) ∙ length-over notes₀ 0 (noteTable z k) (omega (arith, length-note-table z k, so-far, l .fit .notes-fit))
+  notes-whole = ap length (l .notes-are) ∙ length-over notes₀ 0 (noteTable z k) (omega (arith, length-note-table z k, so-far, l .fit .room .notes-fit))
 
   pub before-is : part from end energies′ ≡ energies z k
   before-is = ap (part from end) (l .energies-are) ∙ block-before z k from end (drop (0 + length (energyTable z k)) energies₀) (l .counting .used-is) (l .last)
 
   module _ (h : k < length sets) where
-    pub fill-comes : Coming window sets (bayRows bays) major side k rows
+    pub fill-comes : Coming window sets (bayRow bays) major side k rows
     fill-comes = counting-comes (l .counting) h
 
-    -- the 64 energies of the bay
-    pub bay-in : k * 64 + 64 ≤ length bays
+    -- the row of the bay's energies
+    pub bay-in : k * mostStrands + mostStrands ≤ length bays
     bay-in = omega (arith, l .fit .bay-energies)
 
-    pub here-long : (here : List Float) → here ≡ take (k * 64 + 64 - k * 64) (drop (k * 64) bays) → 64 ≤ length here
+    pub here-long : (here : List Float) → here ≡ part (k * mostStrands) (k * mostStrands + mostStrands) bays → mostStrands ≤ length here
     here-long here e =
-        let n : k * 64 + 64 - k * 64 ≡ 64 = omega arith in
-        let long : length (drop (k * 64) bays) ≡ length bays - k * 64 = length-drop (k * 64) bays in
-        omega (arith, ap length (e ∙ ap (λ i. take i (drop (k * 64) bays)) n), length-take-le 64 (drop (k * 64) bays) (omega (arith, bay-in)))
+        let n : k * mostStrands + mostStrands - k * mostStrands ≡ mostStrands = omega arith in
+        let long : length (drop (k * mostStrands) bays) ≡ length bays - k * mostStrands = length-drop (k * mostStrands) bays in
+        omega (arith, ap length (e ∙ ap (λ i. take i (drop (k * mostStrands) bays)) n), length-take-le mostStrands (drop (k * mostStrands) bays) (omega (arith, bay-in)))
 
     module _ {b : Bay} (e : b ≡ bayOf window sets k (rows / length (strandsOf (leavingOf window sets k)))) where
       next-rows : b .width * length (strandsOf (b .set)) ≡ size z (k + 1) (suc (window - 1))
@@ -154,24 +152,24 @@ module _ {window : ℕ} {sets : List ℕ} {bays major side energies₀ energies�
             some-leave = subst (λ s. 0 < length (strandsOf s)) (sym (ap (λ (b : Bay). b .leaving) e)) (fill-comes .some-leave);
             from-end = omega (arith, l .last);
             behind = omega arith;
-            energies-fit = omega (arith, room, l .fit .energies-fit, energies-whole);
-            notes-fit = omega (arith, room, l .fit .notes-fit, notes-whole);
+            energies-fit = omega (arith, room, l .fit .room .energies-fit, energies-whole);
+            notes-fit = omega (arith, room, l .fit .room .notes-fit, notes-whole);
           }
 
       pub previous-some : 0 < length (strandsOf (b .previous))
-      previous-some = subst (λ s. 0 < length (strandsOf s)) (sym (ap (λ (b : Bay). b .previous) e)) (l .fit .filled (k - 1) (omega arith))
+      previous-some = subst (λ s. 0 < length (strandsOf s)) (sym (ap (λ (b : Bay). b .previous) e)) (l .fit .room .filled (k - 1) (omega arith))
 
       -- the block that is written is the scan's
-      wrote : {A : Type 0} (p : Choice → A) (here : List Float) → here ≡ take (k * 64 + 64 - k * 64) (drop (k * 64) bays)
+      wrote : {A : Type 0} (p : Choice → A) (here : List Float) → here ≡ part (k * mostStrands) (k * mostStrands + mostStrands) bays
           → bayBlock p b here major side (part from end energies′) ≡ blockOf p z (energies z k) k
       wrote p here f =
-          let n : k * 64 + 64 - k * 64 ≡ 64 = omega arith in
+          let n : k * mostStrands + mostStrands - k * mostStrands ≡ mostStrands = omega arith in
           ap₂ (λ (x : Bay) (before : List Float). bayBlock p x here major side before)
           (bay-is fill-comes e) before-is
-          ∙ block-is window sets (bayRows bays) major side p here (energies z k) k (size z k (window - 1)) (l .fit .some-window) refl
-          (f ∙ ap (λ i. take i (drop (k * 64) bays)) n)
+          ∙ block-is window sets (bayRow bays) major side p here (energies z k) k (size z k (window - 1)) (l .fit .room .some-window) refl
+          (f ∙ ap (λ i. take i (drop (k * mostStrands) bays)) n)
 
-      pub filling-turns : (here newer : List Float) (noted : List ℕ) (r : ℕ) → here ≡ take (k * 64 + 64 - k * 64) (drop (k * 64) bays)
+      pub filling-turns : (here newer : List Float) (noted : List ℕ) (r : ℕ) → here ≡ part (k * mostStrands) (k * mostStrands + mostStrands) bays
           → newer ≡ over energies′ end (bayBlock (λ c. c .energy) b here major side (part from end energies′))
           → noted ≡ over notes′ end (bayBlock (λ c. c .who) b here major side (part from end energies′))
           → r ≡ b .width * length (strandsOf (b .set))
@@ -179,7 +177,7 @@ module _ {window : ℕ} {sets : List ℕ} {bays major side energies₀ energies�
       filling-turns here newer noted r f x y c =
           let rs : r ≡ size z (k + 1) (suc (window - 1)) = c ∙ next-rows in
           let used : end ≡ need z k = l .counting .used-is in
-          let few : end + r ≤ 1048576 = omega (arith, c, room, l .fit .few-rows) in
+          let few : end + r ≤ mostRows = omega (arith, c, room, l .fit .room .few-rows) in
           let le : length (energies z (suc k)) ≡ r = length-energies z k ∙ ap (λ i. size z i (suc (window - 1))) (sym (add-one k)) ∙ sym rs in
           let ln : length (notes z (suc k)) ≡ r = length-notes z k ∙ ap (λ i. size z i (suc (window - 1))) (sym (add-one k)) ∙ sym rs in
           record {
@@ -190,22 +188,23 @@ module _ {window : ℕ} {sets : List ℕ} {bays major side energies₀ energies�
                 x
                 ∙ ap₂ (λ o n. over o end n) (l .energies-are) (wrote (λ c. c .energy) here f ∙ next-energies z k)
                 ∙ over-over energies₀ 0 (energyTable z k) (energies z (suc k)) end (used ∙ sym (length-energy-table z k) ∙ sym (zero-add (length (energyTable z k))))
-                (omega (arith, le, c, room, l .fit .energies-fit))
+                (omega (arith, le, c, room, l .fit .room .energies-fit))
                 ∙ ap (over energies₀ 0) (sym (energy-table-more z k));
             notes-are =
                 y
                 ∙ ap₂ (λ o n. over o end n) (l .notes-are) (wrote (λ c. c .who) here f ∙ next-notes z k)
                 ∙ over-over notes₀ 0 (noteTable z k) (notes z (suc k)) end (used ∙ sym (length-note-table z k) ∙ sym (zero-add (length (noteTable z k))))
-                (omega (arith, ln, c, room, l .fit .notes-fit))
+                (omega (arith, ln, c, room, l .fit .room .notes-fit))
                 ∙ ap (over notes₀ 0) (sym (note-table-more z k));
           }
 
   pub filling-ends : length sets ≤ k
-      → (record { from = from; end = end } ≡ lastOf z (length sets))
-      × ((energies′ ≡ over energies₀ 0 (energyTable z (length sets))) × (notes′ ≡ over notes₀ 0 (noteTable z (length sets))))
+      → LedgerFilled z (length sets) (record { from = from; end = end }) energies₀ energies′ notes₀ notes′
   filling-ends h =
       let all : k ≡ length sets = omega (arith, l .counting .within) in
-      let begins : from ≡ need z k - length (energies z k) = omega (arith, l .last, l .counting .used-is) in (
-        ap₂ (λ (a b : ℕ). record { from = a; end = b }) begins (l .counting .used-is) ∙ ap (lastOf z) all,
-        (l .energies-are ∙ ap (λ i. over energies₀ 0 (energyTable z i)) all, l .notes-are ∙ ap (λ i. over notes₀ 0 (noteTable z i)) all),
-      )
+      let begins : from ≡ need z k - length (energies z k) = omega (arith, l .last, l .counting .used-is) in
+      record {
+        last-is = ap₂ (λ (a b : ℕ). record { from = a; end = b }) begins (l .counting .used-is) ∙ ap (lastOf z) all;
+        energies-are = l .energies-are ∙ ap (λ i. over energies₀ 0 (energyTable z i)) all;
+        notes-are = l .notes-are ∙ ap (λ i. over notes₀ 0 (noteTable z i)) all;
+      }

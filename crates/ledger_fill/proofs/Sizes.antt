@@ -11,9 +11,10 @@ use native.Mathlib.Omega.{arith}
 use lib.Ieee.{Float}
 use lib.ListN.{length, getD}
 use borrow.Author.Tests.{le-leb, lt-leb}
+use Rattle.units.specs.Limits.{mostRows, mostStrands}
 use Rattle.sets.specs.Set.{has}
 use Rattle.sets.proofs.Members.{length-le}
-use Rattle.ledger_rows.specs.Scan.{Scan, Filled}
+use Rattle.ledger_rows.specs.Scan.{Scan, EachHasStrand}
 use Rattle.ledger_rows.specs.Blocks.{size, need}
 use Rattle.ledger_rows.proofs.Numbering.{size-more, size-leavers, leavers-some}
 use Rattle.ledger_block.specs.declared.Bay.{Bay}
@@ -43,30 +44,30 @@ module _ (z : Scan) where
   pub need-mono : (k n : ℕ) → k ≤ n → need z k ≤ need z n
   need-mono k n h = le-ind (λ m. need z k ≤ need z m) (omega arith) (λ m l old. omega (arith, need-more m, ap (need z) (add-one m))) n h
 
--- a set has at most 64 strands, so a product of a small width and a count is small
-pub product-small : (width set : ℕ) → width ≤ 1048576 → width * length (strandsOf set) ≤ 67108864
-product-small width set h = omega (arith, mul-le-mul {n₁ = width} {m₁ = length (strandsOf set)} {n₂ = 1048576} {m₂ = 64} h (length-le (has set) 64))
+-- a set has at most `mostStrands` strands, so a product of a small width and a count is small
+pub product-small : (width set : ℕ) → width ≤ mostRows → width * length (strandsOf set) ≤ mostRows * mostStrands
+product-small width set h = omega (arith, mul-le-mul {n₁ = width} {m₁ = length (strandsOf set)} {n₂ = mostRows} {m₂ = mostStrands} h (length-le (has set) mostStrands))
 
 -- ---- the need, capped
-pub capped-in : (n : ℕ) → n ≤ 1048576 → n ≡ capped n
-capped-in n h = sym (ap (λ b. cond b n 1048577) (le-leb n 1048576 h))
+pub capped-in : (n : ℕ) → n ≤ mostRows → n ≡ capped n
+capped-in n h = sym (ap (λ b. cond b n (mostRows + 1)) (le-leb n mostRows h))
 
-pub capped-out : (n : ℕ) → 1048576 < n → 1048577 ≡ capped n
-capped-out n h = sym (ap (λ b. cond b n 1048577) (lt-leb n 1048576 h))
+pub capped-out : (n : ℕ) → mostRows < n → mostRows + 1 ≡ capped n
+capped-out n h = sym (ap (λ b. cond b n (mostRows + 1)) (lt-leb n mostRows h))
 
 -- the limit is passed exactly where the cap says so, and below it the cap changes nothing
-pub capped-exact : (n : ℕ) → (1048576 < capped n) ↔ (1048576 < n)
-capped-exact n = (λ h. elim (decLe n 1048576) [ yes l ↦ absurd (omega (arith, capped-in n l)) | no l ↦ omega arith ], λ h. omega (arith, capped-out n h))
+pub capped-exact : (n : ℕ) → (mostRows < capped n) ↔ (mostRows < n)
+capped-exact n = (λ h. elim (decLe n mostRows) [ yes l ↦ absurd (omega (arith, capped-in n l)) | no l ↦ omega arith ], λ h. omega (arith, capped-out n h))
 
-pub capped-small : (n : ℕ) → capped n ≤ 1048576 → capped n ≡ n
-capped-small n h = elim (decLe n 1048576) [ yes l ↦ sym (capped-in n l) | no l ↦ absurd (omega (arith, capped-out n (omega arith))) ]
+pub capped-small : (n : ℕ) → capped n ≤ mostRows → capped n ≡ n
+capped-small n h = elim (decLe n mostRows) [ yes l ↦ sym (capped-in n l) | no l ↦ absurd (omega (arith, capped-out n (omega arith))) ]
 
 -- ---- the sizes that the code goes through
 -- what is known of bay k as it comes, behind a block with so many rows
 pub record Coming (window : ℕ) (sets : List ℕ) (rows : ℕ → List Float) (major side : List Float) (k before : ℕ) : Type 0 where
   pub some-leave : 0 < length (strandsOf (leavingOf window sets k))
   pub width-is : before / length (strandsOf (leavingOf window sets k)) ≡ size (scanOf window sets rows major side) k (window - 1)
-  pub small : size (scanOf window sets rows major side) k (window - 1) ≤ 1048576
+  pub small : size (scanOf window sets rows major side) k (window - 1) ≤ mostRows
   pub rows-are : size (scanOf window sets rows major side) k (window - 1) * length (strandsOf (getD sets k 0)) ≡ size (scanOf window sets rows major side) (k + 1) (suc (window - 1))
 
 module _ {window : ℕ} {sets : List ℕ} {rows : ℕ → List Float} {major side : List Float} {k before : ℕ} (c : Coming window sets rows major side k before) {b : Bay}
@@ -77,26 +78,26 @@ module _ {window : ℕ} {sets : List ℕ} {rows : ℕ → List Float} {major sid
   pub bay-is : b ≡ bayOf window sets k (size (scanOf window sets rows major side) k (window - 1))
   bay-is = e ∙ ap (bayOf window sets k) (c .width-is)
 
-  pub bay-small : b .width ≤ 1048576
-  bay-small = subst (λ w. w ≤ 1048576) (sym bay-width) (c .small)
+  pub bay-small : b .width ≤ mostRows
+  bay-small = subst (λ w. w ≤ mostRows) (sym bay-width) (c .small)
 
   pub bay-rows : (r : ℕ) → r ≡ b .width * length (strandsOf (b .set)) → r ≡ size (scanOf window sets rows major side) (k + 1) (suc (window - 1))
   bay-rows r f = f ∙ ap₂ (λ w s. w * length (strandsOf s)) bay-width (ap (λ (b : Bay). b .set) e) ∙ c .rows-are
 
-  pub rows-small : (r : ℕ) → r ≡ b .width * length (strandsOf (b .set)) → r ≤ 67108864
-  rows-small r f = subst (λ i. i ≤ 67108864) (sym f) (product-small (b .width) (b .set) bay-small)
+  pub rows-small : (r : ℕ) → r ≡ b .width * length (strandsOf (b .set)) → r ≤ mostRows * mostStrands
+  rows-small r f = subst (λ i. i ≤ mostRows * mostStrands) (sym f) (product-small (b .width) (b .set) bay-small)
 
 -- the rows of the first k of n bays are counted, and none is past the limit
 pub record Counting (window : ℕ) (sets : List ℕ) (rows : ℕ → List Float) (major side : List Float) (n k before used : ℕ) : Type 0 where
   pub some-window : 0 < window
-  pub filled : Filled (scanOf window sets rows major side) n
+  pub filled : EachHasStrand (scanOf window sets rows major side) n
   pub within : k ≤ n
   pub rows-are : before ≡ size (scanOf window sets rows major side) k (suc (window - 1))
   pub used-is : used ≡ need (scanOf window sets rows major side) k
-  pub few-rows : before ≤ 1048576
-  pub few : used ≤ 1048576
+  pub few-rows : before ≤ mostRows
+  pub few : used ≤ mostRows
 
-pub counting-starts : (window : ℕ) (sets : List ℕ) (rows : ℕ → List Float) (major side : List Float) (n : ℕ) → 0 < window → Filled (scanOf window sets rows major side) n
+pub counting-starts : (window : ℕ) (sets : List ℕ) (rows : ℕ → List Float) (major side : List Float) (n : ℕ) → 0 < window → EachHasStrand (scanOf window sets rows major side) n
     → Counting window sets rows major side n 0 1 0
 counting-starts window sets rows major side n pos some =
     let z = scanOf window sets rows major side in
@@ -123,19 +124,19 @@ module _ {window : ℕ} {sets : List ℕ} {rows : ℕ → List Float} {major sid
       record {
         some-leave = leave;
         width-is = ap (λ i. i / count) split ∙ mul-div-cancel-left (size z k (window - 1)) leave;
-        small = quotient-small count (size z k (window - 1)) 1048576 leave (subst (λ i. i ≤ 1048576) split (l .few-rows));
+        small = quotient-small count (size z k (window - 1)) mostRows leave (subst (λ i. i ≤ mostRows) split (l .few-rows));
         rows-are = sym (size-more z k (window - 1)) ∙ ap (λ i. size z i (suc (window - 1))) (sym (add-one k));
       }
 
   pub counted : {r : ℕ} → r ≡ size z (k + 1) (suc (window - 1)) → used + r ≡ need z (k + 1)
   counted e = ap₂ (λ a b. a + b) (l .used-is) e ∙ sym (need-more z k)
 
-  pub counting-turns : {r : ℕ} → k < n → r ≡ size z (k + 1) (suc (window - 1)) → used + r ≤ 1048576 → Counting window sets rows major side n (k + 1) r (used + r)
+  pub counting-turns : {r : ℕ} → k < n → r ≡ size z (k + 1) (suc (window - 1)) → used + r ≤ mostRows → Counting window sets rows major side n (k + 1) r (used + r)
   counting-turns h e few =
       record { some-window = l .some-window; filled = l .filled; within = omega arith; rows-are = e; used-is = counted e; few-rows = omega arith; few = few }
 
   -- one block too many is too many for all
-  pub too-many : {r : ℕ} → k < n → r ≡ size z (k + 1) (suc (window - 1)) → 1048576 < used + r → 1048577 ≡ capped (need z n)
+  pub too-many : {r : ℕ} → k < n → r ≡ size z (k + 1) (suc (window - 1)) → mostRows < used + r → mostRows + 1 ≡ capped (need z n)
   too-many h e large = capped-out (need z n) (omega (arith, counted e, need-mono z (k + 1) n (omega arith)))
 
   pub counting-ends : n ≤ k → used ≡ capped (need z n)

@@ -2,11 +2,12 @@
 -- previous major line and to the previous bay; for each bay the energies of its strands. Assumes nothing.
 use mathlib.Core.Bool.{cond, not}
 use mathlib.Core.List.{List, []}
-use Prim.Native.Nat.{ℕ, _-_, _*_, _%_, _≤_, _<_}
+use Prim.Native.Nat.{ℕ, _+_, _-_, _*_, _%_, _≤_, _<_}
 use lib.Dec.{eqb, leb}
 use lib.Ieee.{Float, nan}
 use lib.ListN.{length, getD, take, drop}
-use Rattle.ledger_rows.specs.Scan.{Scan, Filled}
+use Rattle.units.specs.Limits.{mostRows, mostStrands}
+use Rattle.ledger_rows.specs.Scan.{Scan, EachHasStrand}
 use Rattle.ledger_rows.specs.Blocks.{need}
 use Rattle.energy_bays.specs.ScanSum.{withBond}
 use Rattle.ledger_row_choice.specs.Row.{strandsOf, bondAt}
@@ -26,17 +27,25 @@ setScan window sets = scanOf window sets (λ k. []) [] []
 
 -- a need, and one more than the limit where it is larger
 abbrev pub capped : ℕ → ℕ
-capped need = cond (leb need 1048576) need 1048577
+capped need = cond (leb need mostRows) need (mostRows + 1)
 
--- the scan of a run whose bay energies stand in one table, 64 a bay
+-- the energies of bay k's strands in the table of all bays, which has a row of `mostStrands` for each
+abbrev pub bayRow : (bays : List Float) → (k : ℕ) → List Float
+bayRow bays k = take mostStrands (drop (k * mostStrands) bays)
+
+-- the scan of a run whose bay energies stand in one table
 abbrev pub runScan : (window : ℕ) → (sets : List ℕ) → (bays major side : List Float) → Scan
-runScan window sets bays major side = scanOf window sets (λ k. take 64 (drop (k * 64) bays)) major side
+runScan window sets bays major side = scanOf window sets (bayRow bays) major side
 
--- what a fill is handed: a window, a strand for each bay, 64 energies a bay, few enough rows, and room for them in both tables
-pub record Fillable (window : ℕ) (sets : List ℕ) (bays : List Float) (energies notes : ℕ) : Type 0 where
+-- what is asked of sets in scan order and of the lent tables: a window, a strand for each bay, few enough rows, and room for them in both
+pub record Roomy (window : ℕ) (sets : List ℕ) (energies notes : ℕ) : Type 0 where
   pub some-window : 0 < window
-  pub filled : Filled (setScan window sets) (length sets)
-  pub bay-energies : length sets * 64 ≤ length bays
-  pub few-rows : need (setScan window sets) (length sets) ≤ 1048576
+  pub filled : EachHasStrand (setScan window sets) (length sets)
+  pub few-rows : need (setScan window sets) (length sets) ≤ mostRows
   pub energies-fit : need (setScan window sets) (length sets) ≤ energies
   pub notes-fit : need (setScan window sets) (length sets) ≤ notes
+
+-- what a fill is handed: these, and a row of energies for each bay
+pub record Fillable (window : ℕ) (sets : List ℕ) (bays : List Float) (energies notes : ℕ) : Type 0 where
+  pub room : Roomy window sets energies notes
+  pub bay-energies : length sets * mostStrands ≤ length bays

@@ -3,15 +3,21 @@
 ghost use mathlib.Core.Path.{_≡_};
 ghost use Prim.Native.Nat.{_-_, _*_, _/_, _≤_, _<_};
 ghost use lib.ListN.{length};
-ghost use Rattle.ledger_rows.specs.Scan.{Filled};
-ghost use Rattle.ledger_rows.specs.Blocks.{need, energyTable, noteTable};
+ghost use Rattle.units.specs.Limits.{mostRows};
+ghost use Rattle.ledger_rows.specs.Scan.{EachHasStrand};
+ghost use Rattle.ledger_rows.specs.Blocks.{need};
 ghost use Rattle.ledger_row_choice.specs.Row.{strandsOf};
 ghost use Rattle.ledger_fill.specs.Handed.{setScan, runScan, Fillable, capped};
-ghost use Rattle.ledger_block.specs.Block.{over};
 ghost use Rattle.ledger_fill.specs.Bays.{leavingOf, bayOf};
-ghost use Rattle.ledger_fill.specs.Last.{lastOf};
+ghost use Rattle.ledger_fill.specs.Last.{LedgerFilled};
 use ledger_block::Bay;
 use ledger_block::put_bay;
+use ledger_row_choice::PAIRS;
+use units::MOST_ROWS;
+use units::MOST_STRANDS;
+
+// One row more than a ledger may have.
+const TOO_MANY_ROWS: usize = MOST_ROWS + 1;
 
 // The set that leaves the window as bay k comes: strand 0 alone while none does.
 pub fn leaving(window: usize, sets: &[u64], k: usize) -> u64
@@ -49,17 +55,17 @@ fn bay_at(window: usize, sets: &[u64], k: usize, rows: usize) -> Bay
 
 // How many rows the bay's block has.
 fn rows_of(bay: Bay) -> usize
-    requires { ⌜ bay .width ≤ 1048576 ⌝ }
+    requires { ⌜ bay .width ≤ mostRows ⌝ }
     ensures { λ r. ⌜ r ≡ bay .width * length (strandsOf (bay .set)) ⌝ }
 {
     bay.width * sets::size(bay.set) as usize
 }
 
-// How many rows the ledger needs, and 1,048,577 where that is more than 1,048,576. No product that
-// is formed passes 64 times the limit.
+// How many rows the ledger needs, and one more than it may have where that is too many. A product is
+// formed of a size within the limit and the strands of one bay alone.
 pub fn need(window: usize, sets: &[u64]) -> usize
     requires { ⌜ 0 < window ⌝ }
-    requires { ⌜ Filled (setScan window (now sets)) (length (now sets)) ⌝ }
+    requires { ⌜ EachHasStrand (setScan window (now sets)) (length (now sets)) ⌝ }
     ensures { λ r. ⌜ r ≡ capped (need (setScan window (now (sets .entry))) (length (now (sets .entry)))) ⌝ }
 {
     let mut rows = 1;
@@ -68,8 +74,8 @@ pub fn need(window: usize, sets: &[u64]) -> usize
     while k < sets.len() {
         rows = rows_of(bay_at(window, sets, k, rows));
         used += rows;
-        if 1048576 < used {
-            return 1048577;
+        if MOST_ROWS < used {
+            return TOO_MANY_ROWS;
         }
         k += 1;
     }
@@ -82,21 +88,20 @@ pub struct Last {
     pub end: usize,
 }
 
-// Writes all blocks from place 0 on, one behind the other, and answers where the last one stands. The energies of bay k's strands stand
-// from place 64 · k of `bays` on.
+// Writes all blocks from place 0 on, one behind the other, and answers where the last one stands. Row k of `bays`, which
+// has a place for each strand that a system may have, holds the energies of bay k's strands.
 pub fn fill(
     window: usize,
     sets: &[u64],
     bays: &[f64],
-    major: &[f64; 4096],
-    side: &[f64; 4096],
+    major: &[f64; PAIRS],
+    side: &[f64; PAIRS],
     energies: &mut [f64],
     notes: &mut [u8],
 ) -> Last
     requires { ⌜ Fillable window (now sets) (now bays) (length (now energies)) (length (now notes)) ⌝ }
-    ensures { λ r. ⌜ r ≡ lastOf (runScan window (now (sets .entry)) (now (bays .entry)) (now (major .entry)) (now (side .entry))) (length (now (sets .entry))) ⌝ }
-    ensures { λ _. ⌜ now (energies .exit) ≡ over (now (energies .entry)) 0 (energyTable (runScan window (now (sets .entry)) (now (bays .entry)) (now (major .entry)) (now (side .entry))) (length (now (sets .entry)))) ⌝ }
-    ensures { λ _. ⌜ now (notes .exit) ≡ over (now (notes .entry)) 0 (noteTable (runScan window (now (sets .entry)) (now (bays .entry)) (now (major .entry)) (now (side .entry))) (length (now (sets .entry)))) ⌝ }
+    ensures { λ r. let z = runScan window (now (sets .entry)) (now (bays .entry)) (now (major .entry)) (now (side .entry)) in
+        ⌜ LedgerFilled z (length (now (sets .entry))) r (now (energies .entry)) (now (energies .exit)) (now (notes .entry)) (now (notes .exit)) ⌝ }
 {
     let mut rows = 1;
     let mut from = 0;
@@ -104,8 +109,8 @@ pub fn fill(
     let mut k = 0;
     while k < sets.len() {
         let bay = bay_at(window, sets, k, rows);
-        let at = k * 64;
-        let past = at + 64;
+        let at = k * MOST_STRANDS;
+        let past = at + MOST_STRANDS;
         put_bay(
             bay,
             &bays[at..past],

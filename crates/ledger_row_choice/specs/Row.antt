@@ -3,6 +3,7 @@ use mathlib.Core.List.{List}
 use Prim.Native.Nat.{ℕ, _+_, _*_}
 use lib.Ieee.{Float, nan, binary64, add}
 use lib.ListN.{getD}
+use Rattle.units.specs.Limits.{mostStrands}
 use Rattle.floats.specs.declared.Choice.{Choice}
 use Rattle.sets.specs.Set.{has, members}
 use Rattle.energy_bays.specs.ScanSum.{withBond}
@@ -11,11 +12,11 @@ use Rattle.ledger_row_choice.specs.declared.Own.{Own}
 
 -- the strands of a set, by rising number
 abbrev pub strandsOf : (set : ℕ) → List ℕ
-strandsOf set = members (has set) 64
+strandsOf set = members (has set) mostStrands
 
 -- the bond of strand s with strand t, which comes after it: those of one t stand side by side
 abbrev pub bondAt : (table : List Float) → (s t : ℕ) → Float
-bondAt table s t = getD table (t * 64 + s) nan
+bondAt table s t = getD table (t * mostStrands + s) nan
 
 -- what a strand adds, with strand s on the bay of the previous major line
 abbrev pub ownAdds : Own → (major : List Float) → (s : ℕ) → Float

@@ -2,10 +2,15 @@
 ghost use mathlib.Core.Path.{_≡_};
 ghost use Prim.Native.Nat.{_≤_, _<_};
 ghost use lib.ListN.{length};
+ghost use Rattle.units.specs.Limits.{mostRows, mostStrands};
 ghost use Rattle.ledger_rows.specs.Blocks.{heldAt};
 ghost use Rattle.energy_bays.specs.ScanSum.{withBond};
 ghost use Rattle.ledger_row_choice.specs.Row.{strandsOf, bondAt, ownAdds, leftBy, ownRow};
 use floats::Choice;
+use units::MOST_STRANDS;
+
+// How many pairs of strands there are: the places of a table of bonds.
+pub const PAIRS: usize = MOST_STRANDS * MOST_STRANDS;
 
 // What is fixed of a strand in a row: its bay energy, its bond to the previous bay, and which
 // neighbours are there.
@@ -26,11 +31,11 @@ fn held(before: &[f64], i: usize) -> f64
 
 // The bond of strand s with strand t, which comes after it. Those of one t stand side by side,
 // since a row goes over s.
-pub fn bond_at(table: &[f64; 4096], s: usize, t: usize) -> f64
-    requires { ⌜ (s < 64) × (t < 64) ⌝ }
+pub fn bond_at(table: &[f64; PAIRS], s: usize, t: usize) -> f64
+    requires { ⌜ (s < mostStrands) × (t < mostStrands) ⌝ }
     ensures { λ r. ⌜ r ≡ bondAt (now (table .entry)) s t ⌝ }
 {
-    table[t * 64 + s]
+    table[t * MOST_STRANDS + s]
 }
 
 // The bond added where the neighbour is there.
@@ -41,8 +46,8 @@ fn with_bond(there: bool, bond: f64, x: f64) -> f64
 }
 
 // What a strand adds, with strand s on the bay of the previous major line.
-fn own_adds(own: Own, major: &[f64; 4096], s: usize) -> f64
-    requires { ⌜ (own .strand < 64) × (s < 64) ⌝ }
+fn own_adds(own: Own, major: &[f64; PAIRS], s: usize) -> f64
+    requires { ⌜ (own .strand < mostStrands) × (s < mostStrands) ⌝ }
     ensures { λ r. ⌜ r ≡ ownAdds own (now (major .entry)) s ⌝ }
 {
     let x = with_bond(own.below, bond_at(major, s, own.strand), own.bay);
@@ -50,8 +55,8 @@ fn own_adds(own: Own, major: &[f64; 4096], s: usize) -> f64
 }
 
 // The sum with which strand s leaves row i of the block before.
-fn candidate(before: &[f64], i: usize, major: &[f64; 4096], own: Own, s: usize) -> Choice
-    requires { ⌜ (own .strand < 64) × (s < 64) ⌝ }
+fn candidate(before: &[f64], i: usize, major: &[f64; PAIRS], own: Own, s: usize) -> Choice
+    requires { ⌜ (own .strand < mostStrands) × (s < mostStrands) ⌝ }
     ensures { λ r. ⌜ r ≡ leftBy own (now (major .entry)) (now (before .entry)) i s ⌝ }
 {
     Choice {
@@ -67,10 +72,10 @@ pub fn row(
     q: usize,
     width: usize,
     leaving: u64,
-    major: &[f64; 4096],
+    major: &[f64; PAIRS],
     own: Own,
 ) -> Choice
-    requires { ⌜ (own .strand < 64) × (q < width) × (width ≤ 1048576) × (0 < length (strandsOf leaving)) ⌝ }
+    requires { ⌜ (own .strand < mostStrands) × (q < width) × (width ≤ mostRows) × (0 < length (strandsOf leaving)) ⌝ }
     ensures { λ r. ⌜ r ≡ ownRow own (now (major .entry)) (now (before .entry)) leaving width q ⌝ }
 {
     let mut choice = candidate(before, q, major, own, sets::first(leaving) as usize);

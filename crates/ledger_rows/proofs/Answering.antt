@@ -4,7 +4,7 @@ use Prim.Native.Nat.{ℕ, suc, _/_, _%_, _<_}
 use native.Mathlib.Omega.{arith}
 use lib.ListN.{length, getD}
 use Rattle.floats.specs.declared.Choice.{Choice}
-use Rattle.ledger_rows.specs.Scan.{Scan, Filled, Rising}
+use Rattle.ledger_rows.specs.Scan.{Scan, EachHasStrand, Rising}
 use Rattle.ledger_rows.specs.Blocks.{size, leavers, heldAt, candidate, energies, notes}
 use Rattle.ledger_rows.specs.Trace.{below, answerRow}
 use Rattle.ledger_rows.proofs.Choosing.{chosen}
@@ -12,7 +12,7 @@ use Rattle.ledger_rows.proofs.Numbering.{Digits, digits, size-more, siz
 use Rattle.ledger_rows.proofs.Rows.{notes-at}
 use Rattle.ledger_rows.proofs.Places.{below-at, leavers-rise}
 
-module _ (z : Scan) (n : ℕ) (some : Filled z n) where
+module _ (z : Scan) (n : ℕ) (some : EachHasStrand z n) where
   pub answer-inside : answerRow z n .who < size z n (suc (z .kept))
   unfolding answerRow
   answer-inside =

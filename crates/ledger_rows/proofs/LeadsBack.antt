@@ -9,7 +9,7 @@ use native.Mathlib.Omega.{arith}
 use lib.Arith.{digits-lt}
 use lib.ListN.{length, getD, drop}
 use Rattle.floats.specs.declared.Choice.{Choice}
-use Rattle.ledger_rows.specs.Scan.{Scan, Legal, scanSum, Filled, Rising}
+use Rattle.ledger_rows.specs.Scan.{Scan, Legal, scanSum, EachHasStrand, Rising}
 use Rattle.ledger_rows.specs.Blocks.{size, leavers, heldAt, cameFrom, candidate, rowOf, energies, notes}
 use Rattle.ledger_rows.specs.Trace.{below, rowBefore, trace}
 use Rattle.ledger_rows.proofs.Choosing.{chosen}
@@ -82,7 +82,7 @@ module _ (z : Scan) where
     led : rowBefore z k i ≡ cameFrom z k (i / length (z .strands k)) leaver
     inside : rowBefore z k i < size z k (suc (z .kept))
 
-  came : (k i : ℕ) → Filled z (suc k) → ((k : ℕ) → Rising (z .strands k)) → i < size z (suc k) (suc (z .kept)) → Came k i
+  came : (k i : ℕ) → EachHasStrand z (suc k) → ((k : ℕ) → Rising (z .strands k)) → i < size z (suc k) (suc (z .kept)) → Came k i
   came k i some rise h =
       let c = length (z .strands k) in
       let q = i / c in
@@ -111,14 +111,14 @@ module _ (z : Scan) where
       subst (λ r. Back z (suc k) r (getD (z .strands k) (i % c) 0 ∷ f)) (at .own .split)
       (goes-on k (i / c) (i % c) (at .leaver) f (at .own .whole) (at .own .rest) (at .held) (subst (λ r. Back z k r f) (at .led) before))
 
-  pub leads-back : (k i : ℕ) → Filled z k → ((k : ℕ) → Rising (z .strands k)) → i < size z k (suc (z .kept)) → Back z k i (trace z k i)
+  pub leads-back : (k i : ℕ) → EachHasStrand z k → ((k : ℕ) → Rising (z .strands k)) → i < size z k (suc (z .kept)) → Back z k i (trace z k i)
   unfolding trace
   leads-back zero i some rise h = none i h
   leads-back (suc k) i some rise h =
       let at = came k i some rise h in step k i at (leads-back k (rowBefore z k i) (λ j g. some j (omega arith)) rise (at .inside))
 
   -- on the way back each row leads to the rest of the filling
-  pub on-the-way : (k i : ℕ) → Filled z k → ((k : ℕ) → Rising (z .strands k)) → i < size z k (suc (z .kept)) → (j : ℕ) → j ≤ k
+  pub on-the-way : (k i : ℕ) → EachHasStrand z k → ((k : ℕ) → Rising (z .strands k)) → i < size z k (suc (z .kept)) → (j : ℕ) → j ≤ k
       → (p : ℕ) × (p < size z j (suc (z .kept))) × Back z j p (drop (k - j) (trace z k i))
   unfolding trace
   on-the-way zero i some rise h zero b = (i, h, leads-back zero i some rise h)

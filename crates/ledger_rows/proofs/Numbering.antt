@@ -7,7 +7,7 @@ use native.Mathlib.Nat.{mul-pos, mod-lt, div-lt-iff-lt-mul, div-add-mod', add-mu
 use native.Mathlib.Omega.{arith}
 use lib.Arith.{digits-lt, digits-div, digits-mod}
 use lib.ListN.{length, getD}
-use Rattle.ledger_rows.specs.Scan.{Scan, Legal, Filled}
+use Rattle.ledger_rows.specs.Scan.{Scan, Legal, EachHasStrand}
 use Rattle.ledger_rows.specs.Blocks.{size, leavers, newest}
 
 -- two numbers with a rest below the width are equal where their parts are
@@ -68,14 +68,14 @@ module _ (z : Scan) where
   leavers-late (suc j) (suc k) h = leavers-late j k (omega arith) ∙ ap (z .strands) (omega arith)
 
   -- where each bay has a strand, so has the one that leaves
-  pub leavers-some : (j k : ℕ) → Filled z k → 0 < length (leavers z j k)
+  pub leavers-some : (j k : ℕ) → EachHasStrand z k → 0 < length (leavers z j k)
   unfolding leavers
   leavers-some j zero some = omega arith
   leavers-some zero (suc k) some = some k (omega arith)
   leavers-some (suc j) (suc k) some = leavers-some j k (λ i h. some i (omega arith))
 
   -- where each bay has a strand, each block has a row
-  pub size-some : (k j : ℕ) → Filled z k → 0 < size z k j
+  pub size-some : (k j : ℕ) → EachHasStrand z k → 0 < size z k j
   unfolding size
   size-some zero j some = omega arith
   size-some (suc k) zero some = omega arith

@@ -15,7 +15,7 @@ use Rattle.floats.specs.Values.{Good, Bad}
 use Rattle.floats.proofs.Order.{le-trans}
 use Rattle.floats.proofs.Good.{good-or-bad, good-not-bad}
 use Rattle.floats.proofs.Add.{good-left}
-use Rattle.ledger_rows.specs.Scan.{Scan, Legal, scanSum, Filled, Rising}
+use Rattle.ledger_rows.specs.Scan.{Scan, Legal, scanSum, EachHasStrand, Rising}
 use Rattle.ledger_rows.specs.Blocks.{size, leavers, heldAt, candidate, rowOf, energies, notes}
 use Rattle.ledger_rows.specs.Trace.{trace, answerRow, answer, layout}
 use Rattle.ledger_rows.specs.LeastEnergyTheorem.{windows, EndsIn, LeadsBack, LeastOf, Answered, LeastEnergyTheorem}
@@ -34,7 +34,7 @@ RowsGood z k = (i : ℕ) → i < size z k (suc (z .kept)) → Good (heldAt (ener
 
 module _ (z : Scan) where
   -- ---- a bad row makes a row of the next block bad, so good rows come from good rows
-  good-before : (k : ℕ) → Filled z (suc k) → RowsGood z (suc k) → RowsGood z k
+  good-before : (k : ℕ) → EachHasStrand z (suc k) → RowsGood z (suc k) → RowsGood z k
   good-before k some good i h =
       let w = size z k (z .kept) in
       let c = length (z .strands k) in
@@ -48,7 +48,7 @@ module _ (z : Scan) where
       let own : Good (next (i / w) .energy) = found .1 .least (subst (λ x. Good x) held (good (i % w * c + 0) below)) (i / w) (d .whole) .0 in
       subst (λ r. Good (heldAt (energies z k) r)) (d .split) (good-left binary64 _ _ own)
 
-  good-down : (n : ℕ) → Filled z n → RowsGood z n → (k : ℕ) → k ≤ n → RowsGood z k
+  good-down : (n : ℕ) → EachHasStrand z n → RowsGood z n → (k : ℕ) → k ≤ n → RowsGood z k
   good-down zero some good k h = let e : k ≡ 0 = omega arith in rw e good
   good-down (suc n) some good k h =
       ⊎-elim (λ (e : k ≡ suc n). rw e good) (λ (l : k < suc n). good-down n (λ i b. some i (omega arith)) (good-before n some good) k (le-of-suc-le-suc l)) (eq-or-lt-of-le h)
@@ -60,14 +60,14 @@ module _ (z : Scan) where
   abbrev AnswerAt : (n i : ℕ) → Type 0
   AnswerAt n i = Chosen (lastRows n) (size z n (suc (z .kept))) i
 
-  answer-at : (n : ℕ) → Filled z n → (i : ℕ) × AnswerAt n i
+  answer-at : (n : ℕ) → EachHasStrand z n → (i : ℕ) × AnswerAt n i
   answer-at n some = chosen (lastRows n) (size z n (suc (z .kept))) (size-some z n (suc (z .kept)) some)
 
   answer-row : (n i : ℕ) → AnswerAt n i → answerRow z n ≡ lastRows n i
   unfolding answerRow
   answer-row n i at = at .held
 
-  module _ (n : ℕ) (some : Filled z n) (rise : (k : ℕ) → Rising (z .strands k)) where
+  module _ (n : ℕ) (some : EachHasStrand z n) (rise : (k : ℕ) → Rising (z .strands k)) where
     chose : (i : ℕ) × AnswerAt n i
     chose = answer-at n some
 
@@ -77,7 +77,7 @@ module _ (z : Scan) where
     is-row : answerRow z n .who ≡ chose .0
     is-row = ap (λ (r : Choice). r .who) (answer-row n (chose .0) (chose .1))
 
-    earlier : (k : ℕ) → k < n → Filled z (suc k)
+    earlier : (k : ℕ) → k < n → EachHasStrand z (suc k)
     earlier k h i b = some i (omega arith)
 
     -- ---- an answered run has good rows alone

@@ -33,8 +33,8 @@ scanSum z [] = ofBits binary64 0
 scanSum z (t ∷ f) = add binary64 (scanSum z f) (z .added (length f) (getD f (z .kept) 0) (getD f 0 0) t)
 
 -- each of the first n bays has a legal strand
-abbrev pub Filled : Scan → ℕ → Type 0
-Filled z n = (k : ℕ) → k < n → 0 < length (z .strands k)
+abbrev pub EachHasStrand : Scan → ℕ → Type 0
+EachHasStrand z n = (k : ℕ) → k < n → 0 < length (z .strands k)
 
 -- the strands of a list rise
 abbrev pub Rising : List ℕ → Type 0

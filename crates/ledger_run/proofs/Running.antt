@@ -7,8 +7,9 @@ use native.Mathlib.Nat.{zero-add}
 use native.Mathlib.Numerals.{add-one}
 use native.Mathlib.Omega.{arith}
 use lib.Ieee.{Float, inf, lt, binary64, ofBits}
-use lib.ListN.{length, getD, take, drop, replicate, length-replicate, List·getD-append}
+use lib.ListN.{length, getD, drop, replicate, length-replicate, List·getD-append}
 use lib.Seq.{drop-at}
+use Rattle.units.specs.Limits.{mostStrands}
 use Rattle.floats.specs.declared.Choice.{Choice}
 use Rattle.sets.specs.Set.{has}
 use Rattle.sets.proofs.Members.{rising}
@@ -22,15 +23,15 @@ use Rattle.ledger_rows.proofs.SameStrands.{size-same, need-same, leavers-same}
 use Rattle.ledger_rows.proofs.Answering.{answer-inside, note-leaves}
 use Rattle.ledger_fill.specs.declared.Last.{Last}
 use Rattle.ledger_row_choice.specs.Row.{strandsOf}
-use Rattle.ledger_fill.specs.Handed.{addedOf, setScan, runScan, Fillable}
+use Rattle.ledger_fill.specs.Handed.{addedOf, setScan, bayRow, runScan, Fillable}
 use Rattle.ledger_block.specs.Block.{over, part}
-use Rattle.ledger_fill.specs.Last.{lastOf}
+use Rattle.ledger_fill.specs.Last.{LedgerFilled}
 use Rattle.ledger_fill.proofs.Filling.{block-within, block-before}
 use Rattle.ledger_block.proofs.Over.{length-over}
 use Rattle.ledger_fill.proofs.Sizes.{need-mono, need-more}
 use Rattle.ledger_way_back.specs.Tracing.{inOrder, traceIn, Traceable}
 use Rattle.ledger_way_back.specs.Places.{placeOf, rowBack}
-use Rattle.ledger_run.specs.Run.{energiesAfter, notesAfter, orderAfter}
+use Rattle.ledger_run.specs.Run.{ifAnswered, tableLeft, LedgerRan}
 use Rattle.ledger_way_back.proofs.Tracking.{back-inside}
 
 -- what was written is written over by as many
@@ -41,26 +42,24 @@ over-again old new newer e =
 
 -- the strands of a set rise
 pub sets-rise : (set : ℕ) → Rising (strandsOf set)
-sets-rise set p q h l = rising (has set) 64 p q 0 h l
+sets-rise set p q h l = rising (has set) mostStrands p q 0 h l
 
 -- the need that is counted from the sets is the run's
 pub need-is : (window : ℕ) (sets : List ℕ) (bays major side : List Float) (k : ℕ) → need (setScan window sets) k ≡ need (runScan window sets bays major side) k
-need-is window sets bays major side = need-same (setScan window sets) (addedOf window (λ k. take 64 (drop (k * 64) bays)) major side)
+need-is window sets bays major side = need-same (setScan window sets) (addedOf window (bayRow bays) major side)
 
 -- a refused run leaves the layout as it was
-pub kept-order : (z : Scan) (n : ℕ) (order₀ : List ℕ) → lt (inf true) (answer z n) ≡ false → order₀ ≡ orderAfter z n order₀
+pub kept-order : (z : Scan) (n : ℕ) (order₀ : List ℕ) → lt (inf true) (answer z n) ≡ false → order₀ ≡ ifAnswered z n (inOrder (layout z n)) order₀
 kept-order z n order₀ bad = sym (ap (λ b. cond b (inOrder (layout z n)) order₀) bad)
 
 -- what is known once the ledger is filled: where the last block stands, and what both tables hold
-pub record Ran (window : ℕ) (sets : List ℕ) (bays major side energies₀ : List Float) (notes₀ : List ℕ) (last : Last) (filled : List Float) (noted : List ℕ) : Type 0 where
+pub record OnceFilled (window : ℕ) (sets : List ℕ) (bays major side energies₀ : List Float) (notes₀ : List ℕ) (last : Last) (filled : List Float) (noted : List ℕ) : Type 0 where
   pub some : 0 < length sets
   pub fit : Fillable window sets bays (length energies₀) (length notes₀)
-  pub last-is : last ≡ lastOf (runScan window sets bays major side) (length sets)
-  pub energies-are : filled ≡ over energies₀ 0 (energyTable (runScan window sets bays major side) (length sets))
-  pub notes-are : noted ≡ over notes₀ 0 (noteTable (runScan window sets bays major side) (length sets))
+  pub done : LedgerFilled (runScan window sets bays major side) (length sets) last energies₀ filled notes₀ noted
 
 module _ {window : ℕ} {sets : List ℕ} {bays major side energies₀ : List Float} {notes₀ : List ℕ} {last : Last} {filled : List Float} {noted : List ℕ}
-    (r : Ran window sets bays major side energies₀ notes₀ last filled noted) where
+    (r : OnceFilled window sets bays major side energies₀ notes₀ last filled noted) where
   abbrev z : Scan
   z = runScan window sets bays major side
 
@@ -71,13 +70,13 @@ module _ {window : ℕ} {sets : List ℕ} {bays major side energies₀ : List Fl
   n = length sets
 
   size-is : (k j : ℕ) → size zs k j ≡ size z k j
-  size-is = size-same zs (addedOf window (λ k. take 64 (drop (k * 64) bays)) major side)
+  size-is = size-same zs (addedOf window (bayRow bays) major side)
 
   need-at : (k : ℕ) → need zs k ≡ need z k
   need-at = need-is window sets bays major side
 
   leavers-are : (j k : ℕ) → leavers zs j k ≡ leavers z j k
-  leavers-are = leavers-same zs (addedOf window (λ k. take 64 (drop (k * 64) bays)) major side)
+  leavers-are = leavers-same zs (addedOf window (bayRow bays) major side)
 
   last-size : length (energies z n) ≡ size z n (suc (window - 1))
   last-size = go n refl (r .some)
@@ -87,28 +86,28 @@ module _ {window : ℕ} {sets : List ℕ} {bays major side energies₀ : List Fl
       go (suc m) e h = rw e (length-energies z m)
 
   end-is : last .end ≡ need z n
-  end-is = ap (λ (l : Last). l .end) (r .last-is)
+  end-is = ap (λ (l : Last). l .end) (r .done .last-is)
 
   from-is : last .from + length (energies z n) ≡ last .end
-  from-is = omega (arith, ap (λ (l : Last). l .from) (r .last-is), end-is, block-within z n)
+  from-is = omega (arith, ap (λ (l : Last). l .from) (r .done .last-is), end-is, block-within z n)
 
   pub last-in-order : last .from ≤ last .end
   last-in-order = omega (arith, from-is)
 
   pub last-energies : last .end ≤ length energies₀
-  last-energies = omega (arith, end-is, need-at n, r .fit .energies-fit)
+  last-energies = omega (arith, end-is, need-at n, r .fit .room .energies-fit)
 
   pub last-notes : last .end ≤ length notes₀
-  last-notes = omega (arith, end-is, need-at n, r .fit .notes-fit)
+  last-notes = omega (arith, end-is, need-at n, r .fit .room .notes-fit)
 
   pub filled-long : length filled ≡ length energies₀
-  filled-long = ap length (r .energies-are) ∙ length-over energies₀ 0 (energyTable z n) (omega (arith, length-energy-table z n, need-at n, r .fit .energies-fit))
+  filled-long = ap length (r .done .energies-are) ∙ length-over energies₀ 0 (energyTable z n) (omega (arith, length-energy-table z n, need-at n, r .fit .room .energies-fit))
 
   last-block : part (last .from) (last .end) filled ≡ energies z n
-  last-block = ap (part (last .from) (last .end)) (r .energies-are) ∙ block-before z n (last .from) (last .end) (drop (0 + length (energyTable z n)) energies₀) end-is from-is
+  last-block = ap (part (last .from) (last .end)) (r .done .energies-are) ∙ block-before z n (last .from) (last .end) (drop (0 + length (energyTable z n)) energies₀) end-is from-is
 
   pub last-some : 0 < length (part (last .from) (last .end) filled)
-  last-some = subst (λ m. 0 < m) (sym (ap length last-block ∙ last-size)) (size-some z n (suc (window - 1)) (r .fit .filled))
+  last-some = subst (λ m. 0 < m) (sym (ap length last-block ∙ last-size)) (size-some z n (suc (window - 1)) (r .fit .room .filled))
 
   -- the least row of the last block is the answer's
   pub answer-is : (best : Choice) → best ≡ lowest (λ i. record { energy = heldAt (part (last .from) (last .end) filled) i; who = i }) (length (part (last .from) (last .end) filled))
@@ -119,40 +118,41 @@ module _ {window : ℕ} {sets : List ℕ} {bays major side energies₀ : List Fl
       ∙ ap (λ (b : List Float). lowest (λ i. record { energy = heldAt b i; who = i }) (length b)) last-block
       ∙ ap (lowest (λ i. record { energy = heldAt (energies z n) i; who = i })) last-size
 
-  -- the zeros after a bad answer
-  pub cleared-energies : (cleared : List Float) → cleared ≡ over filled 0 (replicate (last .end) (ofBits binary64 0)) → lt (inf true) (answer z n) ≡ false
-      → cleared ≡ energiesAfter z n energies₀
-  cleared-energies cleared g bad =
-      g
-      ∙ ap₂ (λ (l : List Float) (m : ℕ). over l 0 (replicate m (ofBits binary64 0))) (r .energies-are) end-is
-      ∙ over-again energies₀ (energyTable z n) (replicate (need z n) (ofBits binary64 0)) (length-energy-table z n ∙ sym (length-replicate (need z n) (ofBits binary64 0)))
-      ∙ sym (ap (λ b. over energies₀ 0 (cond b (energyTable z n) (replicate (need z n) (ofBits binary64 0)))) bad)
+  -- a written table, cleared after a bad answer and kept after a good one
+  module _ {A : Type 0} (blank : A) (new old : List A) {written : List A} (w : written ≡ over old 0 new) where
+    cleared : length new ≡ need z n → {blanks : List A} → blanks ≡ over written 0 (replicate (last .end) blank) → lt (inf true) (answer z n) ≡ false
+        → blanks ≡ tableLeft z n blank new old
+    cleared long g bad =
+        g
+        ∙ ap₂ (λ (l : List A) (m : ℕ). over l 0 (replicate m blank)) w end-is
+        ∙ over-again old new (replicate (need z n) blank) (long ∙ sym (length-replicate (need z n) blank))
+        ∙ sym (ap (λ b. over old 0 (cond b new (replicate (need z n) blank))) bad)
 
-  pub kept-energies : lt (inf true) (answer z n) ≡ true → filled ≡ energiesAfter z n energies₀
-  kept-energies good = r .energies-are ∙ sym (ap (λ b. over energies₀ 0 (cond b (energyTable z n) (replicate (need z n) (ofBits binary64 0)))) good)
+    kept : lt (inf true) (answer z n) ≡ true → written ≡ tableLeft z n blank new old
+    kept good = w ∙ sym (ap (λ b. over old 0 (cond b new (replicate (need z n) blank))) good)
 
   -- ---- the notes
   pub noted-long : length noted ≡ length notes₀
-  noted-long = ap length (r .notes-are) ∙ length-over notes₀ 0 (noteTable z n) (omega (arith, length-note-table z n, need-at n, r .fit .notes-fit))
+  noted-long = ap length (r .done .notes-are) ∙ length-over notes₀ 0 (noteTable z n) (omega (arith, length-note-table z n, need-at n, r .fit .room .notes-fit))
 
   note-read : (k i : ℕ) → k < n → i < size z (suc k) (suc (window - 1)) → getD noted (need zs k + i) 0 ≡ getD (notes z (suc k)) i 0
   note-read k i h l =
       let room : need z k + i < length (noteTable z n) =
       omega (arith, length-note-table z n, need-more z k, ap (λ m. size z m (suc (window - 1))) (add-one k), need-mono z (k + 1) n (omega arith)) in
-      ap₂ (λ (t : List ℕ) (m : ℕ). getD t (m + i) 0) (r .notes-are) (need-at k)
+      ap₂ (λ (t : List ℕ) (m : ℕ). getD t (m + i) 0) (r .done .notes-are) (need-at k)
       ∙ List·getD-append (noteTable z n) (drop (0 + length (noteTable z n)) notes₀) 0 (need z k + i) room
       ∙ notes-follow z n k i h l
 
   pub traceable : Traceable window sets noted
   traceable =
       record {
-        some-window = r .fit .some-window;
-        filled = r .fit .filled;
-        few-rows = r .fit .few-rows;
-        noted-all = omega (arith, noted-long, r .fit .notes-fit);
+        some-window = r .fit .room .some-window;
+        filled = r .fit .room .filled;
+        few-rows = r .fit .room .few-rows;
+        noted-all = omega (arith, noted-long, r .fit .room .notes-fit);
         noted = λ k i h l.
             let low : i < size z (suc k) (suc (window - 1)) = subst (λ m. i < m) (size-is (suc k) (suc (window - 1))) l in
-            rw (note-read k i h low, leavers-are (window - 1) k) (note-leaves z n (r .fit .filled) (λ k. sets-rise (getD sets k 0)) k i h low);
+            rw (note-read k i h low, leavers-are (window - 1) k) (note-leaves z n (r .fit .room .filled) (λ k. sets-rise (getD sets k 0)) k i h low);
       }
 
   back-same : (k i : ℕ) → k < n → i < size z (suc k) (suc (window - 1)) → rowBack zs noted k i ≡ rowBefore z k i
@@ -179,22 +179,37 @@ module _ {window : ℕ} {sets : List ℕ} {bays major side energies₀ : List Fl
         ap₂ (λ (a b : ℕ). record { row = best .who; rows = a; end = b }) rows ends
 
     pub answer-row-in : best .who < size zs n (suc (window - 1))
-    answer-row-in = rw (size-is n (suc (window - 1)), g) (answer-inside z n (r .fit .filled))
+    answer-row-in = rw (size-is n (suc (window - 1)), g) (answer-inside z n (r .fit .room .filled))
 
-    pub traced-order : (order₀ order : List ℕ) → order ≡ inOrder (traceIn zs noted n (best .who)) → lt (inf true) (answer z n) ≡ true → order ≡ orderAfter z n order₀
+    pub traced-order : (order₀ order : List ℕ) → order ≡ inOrder (traceIn zs noted n (best .who)) → lt (inf true) (answer z n) ≡ true
+        → order ≡ ifAnswered z n (inOrder (layout z n)) order₀
     traced-order order₀ order o good =
         let row : best .who ≡ answerRow z n .who = ap (λ (c : Choice). c .who) g in
         o
         ∙ ap (λ i. inOrder (traceIn zs noted n i)) row
-        ∙ ap inOrder (trace-same n (answerRow z n .who) (omega arith) (answer-inside z n (r .fit .filled)))
+        ∙ ap inOrder (trace-same n (answerRow z n .who) (omega arith) (answer-inside z n (r .fit .room .filled)))
         ∙ sym (ap (λ b. cond b (inOrder (layout z n)) order₀) good)
 
-  pub kept-notes : lt (inf true) (answer z n) ≡ true → noted ≡ notesAfter z n notes₀
-  kept-notes good = r .notes-are ∙ sym (ap (λ b. over notes₀ 0 (cond b (noteTable z n) (replicate (need z n) 0))) good)
+  -- ---- what the run leaves
+  -- refused with 10
+  pub ran-bad : {x : Float} {energies₁ : List Float} {notes₁ : List ℕ} (order₀ : List ℕ) → x ≡ answer z n → lt (inf true) (answer z n) ≡ false
+      → energies₁ ≡ over filled 0 (replicate (last .end) (ofBits binary64 0)) → notes₁ ≡ over noted 0 (replicate (last .end) 0)
+      → LedgerRan z n x order₀ order₀ energies₀ energies₁ notes₀ notes₁
+  ran-bad order₀ e bad es ns =
+      record {
+        sum = e;
+        order = kept-order z n order₀ bad;
+        energies = cleared (ofBits binary64 0) (energyTable z n) energies₀ (r .done .energies-are) (length-energy-table z n) es bad;
+        notes = cleared 0 (noteTable z n) notes₀ (r .done .notes-are) (length-note-table z n) ns bad;
+      }
 
-  pub cleared-notes : (cleared : List ℕ) → cleared ≡ over noted 0 (replicate (last .end) 0) → lt (inf true) (answer z n) ≡ false → cleared ≡ notesAfter z n notes₀
-  cleared-notes cleared g bad =
-      g
-      ∙ ap₂ (λ (l : List ℕ) (m : ℕ). over l 0 (replicate m 0)) (r .notes-are) end-is
-      ∙ over-again notes₀ (noteTable z n) (replicate (need z n) 0) (length-note-table z n ∙ sym (length-replicate (need z n) 0))
-      ∙ sym (ap (λ b. over notes₀ 0 (cond b (noteTable z n) (replicate (need z n) 0))) bad)
+  -- answered
+  pub ran-good : {x : Float} {order₁ : List ℕ} (order₀ : List ℕ) → x ≡ answer z n → lt (inf true) (answer z n) ≡ true
+      → order₁ ≡ ifAnswered z n (inOrder (layout z n)) order₀ → LedgerRan z n x order₀ order₁ energies₀ filled notes₀ noted
+  ran-good order₀ e good o =
+      record {
+        sum = e;
+        order = o;
+        energies = kept (ofBits binary64 0) (energyTable z n) energies₀ (r .done .energies-are) good;
+        notes = kept 0 (noteTable z n) notes₀ (r .done .notes-are) good;
+      }

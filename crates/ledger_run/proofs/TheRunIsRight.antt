@@ -12,7 +12,7 @@ use Rattle.ledger_run.proofs.Running.{sets-rise, need-is}
 
 module _ (window : ℕ) (sets : List ℕ) (bays major side : List Float) where
   pub the-run-is-right : (energies notes : ℕ) → Fillable window sets bays energies notes → LeastEnergyTheorem (runScan window sets bays major side) (length sets)
-  the-run-is-right energies notes fit = the-ledger-is-right (runScan window sets bays major side) (length sets) (fit .filled) (λ k. sets-rise (getD sets k 0))
+  the-run-is-right energies notes fit = the-ledger-is-right (runScan window sets bays major side) (length sets) (fit .room .filled) (λ k. sets-rise (getD sets k 0))
 
   -- the need that is counted before the run is the need of the run
   pub the-need-is-right : need (setScan window sets) (length sets) ≡ need (runScan window sets bays major side) (length sets)

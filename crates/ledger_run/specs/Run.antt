@@ -1,4 +1,5 @@
 -- What a run leaves: the answer and both tables, or zeros where the answer is no energy. Assumes nothing.
+use mathlib.Core.Path.{_≡_}
 use mathlib.Core.Bool.{true, cond}
 use mathlib.Core.List.{List}
 use Prim.Native.Nat.{ℕ}
@@ -14,14 +15,13 @@ use Rattle.ledger_way_back.specs.Tracing.{inOrder}
 abbrev pub ifAnswered : {A : Type 0} → Scan → ℕ → A → A → A
 ifAnswered z n answered refused = cond (lt (inf true) (answer z n)) answered refused
 
--- the energies after a run over n bays: the needed places are written, and are 0.0 after 10
-abbrev pub energiesAfter : Scan → ℕ → List Float → List Float
-energiesAfter z n old = over old 0 (ifAnswered z n (energyTable z n) (replicate (need z n) (ofBits binary64 0)))
+-- a lent table after a run over n bays: its needed places hold the ledger's, and `blank` each after 10; the others are as they were
+abbrev pub tableLeft : {A : Type 0} → Scan → ℕ → (blank : A) → (new old : List A) → List A
+tableLeft z n blank new old = over old 0 (ifAnswered z n new (replicate (need z n) blank))
 
--- the notes after a run likewise
-abbrev pub notesAfter : Scan → ℕ → List ℕ → List ℕ
-notesAfter z n old = over old 0 (ifAnswered z n (noteTable z n) (replicate (need z n) 0))
-
--- the layout in scan order: written where the run is answered, else as it was
-abbrev pub orderAfter : Scan → ℕ → List ℕ → List ℕ
-orderAfter z n old = ifAnswered z n (inOrder (layout z n)) old
+-- what a run over n bays answers and leaves; the layout stands in scan order, and is as it was after 10
+pub record LedgerRan (z : Scan) (n : ℕ) (r : Float) (order₀ order₁ : List ℕ) (energies₀ energies₁ : List Float) (notes₀ notes₁ : List ℕ) : Type 0 where
+  pub sum : r ≡ answer z n
+  pub order : order₁ ≡ ifAnswered z n (inOrder (layout z n)) order₀
+  pub energies : energies₁ ≡ tableLeft z n (ofBits binary64 0) (energyTable z n) energies₀
+  pub notes : notes₁ ≡ tableLeft z n 0 (noteTable z n) notes₀

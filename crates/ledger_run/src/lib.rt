@@ -2,9 +2,8 @@
 ghost use mathlib.Core.Path.{_≡_};
 ghost use Prim.Native.Nat.{_<_};
 ghost use lib.ListN.{length};
-ghost use Rattle.ledger_rows.specs.Trace.{answer};
 ghost use Rattle.ledger_fill.specs.Handed.{runScan, Fillable};
-ghost use Rattle.ledger_run.specs.Run.{energiesAfter, notesAfter, orderAfter};
+ghost use Rattle.ledger_run.specs.Run.{LedgerRan};
 
 mod clear;
 mod least;
@@ -12,6 +11,7 @@ mod least;
 use clear::clear_energies;
 use clear::clear_notes;
 use least::least_row;
+use ledger_row_choice::PAIRS;
 use ledger_way_back::Place;
 use ledger_way_back::trace;
 
@@ -22,18 +22,17 @@ pub fn run(
     window: usize,
     sets: &[u64],
     bays: &[f64],
-    major: &[f64; 4096],
-    side: &[f64; 4096],
+    major: &[f64; PAIRS],
+    side: &[f64; PAIRS],
     order: &mut [u32],
     energies: &mut [f64],
     notes: &mut [u8],
 ) -> f64
     requires { ⌜ Fillable window (now sets) (now bays) (length (now energies)) (length (now notes)) ⌝ }
     requires { ⌜ (0 < length (now sets)) × (length (now order) ≡ length (now sets)) ⌝ }
-    ensures { λ r. ⌜ r ≡ answer (runScan window (now (sets .entry)) (now (bays .entry)) (now (major .entry)) (now (side .entry))) (length (now (sets .entry))) ⌝ }
-    ensures { λ _. ⌜ now (order .exit) ≡ orderAfter (runScan window (now (sets .entry)) (now (bays .entry)) (now (major .entry)) (now (side .entry))) (length (now (sets .entry))) (now (order .entry)) ⌝ }
-    ensures { λ _. ⌜ now (energies .exit) ≡ energiesAfter (runScan window (now (sets .entry)) (now (bays .entry)) (now (major .entry)) (now (side .entry))) (length (now (sets .entry))) (now (energies .entry)) ⌝ }
-    ensures { λ _. ⌜ now (notes .exit) ≡ notesAfter (runScan window (now (sets .entry)) (now (bays .entry)) (now (major .entry)) (now (side .entry))) (length (now (sets .entry))) (now (notes .entry)) ⌝ }
+    ensures { λ r. let z = runScan window (now (sets .entry)) (now (bays .entry)) (now (major .entry)) (now (side .entry)) in
+        let n = length (now (sets .entry)) in
+        ⌜ LedgerRan z n r (now (order .entry)) (now (order .exit)) (now (energies .entry)) (now (energies .exit)) (now (notes .entry)) (now (notes .exit)) ⌝ }
 {
     let last = ledger_fill::fill(window, sets, bays, major, side, energies, notes);
     let from = last.from;

@@ -7,6 +7,7 @@ use native.Mathlib.Numerals.{add-one}
 use native.Mathlib.Decide.{decLt}
 use native.Mathlib.Omega.{arith}
 use lib.ListN.{length, getD}
+use Rattle.units.specs.Limits.{mostRows, mostStrands}
 use Rattle.sets.specs.Set.{has, members}
 use Rattle.sets.proofs.Members.{length-le}
 use Rattle.ledger_rows.specs.Scan.{Scan}
@@ -58,7 +59,7 @@ module _ {window : ℕ} {sets notes : List ℕ} {k : ℕ} {at : Place} (o : OnRo
   pub width-is : (n : ℕ) → n ≡ count → at .rows / n ≡ w
   width-is n f = ap₂ (λ (a b : ℕ). a / b) rows-are f ∙ mul-div-cancel w count-some
 
-  pub width-small : w ≤ 1048576
+  pub width-small : w ≤ mostRows
   width-small = omega (arith, rows-are, mul-le-mul {n₁ = w} {m₁ = 1} {n₂ = w} {m₂ = count} (omega arith) count-some, all-few, o .tables .few-rows)
 
   pub from-is : at .end - at .rows ≡ need z k
@@ -76,34 +77,34 @@ module _ {window : ℕ} {sets notes : List ℕ} {k : ℕ} {at : Place} (o : OnRo
 
   -- its position is the count of the strands below it
   pub position-is : length (members (has (leavingOf window sets k)) (getD notes (at .end - at .rows + at .row) 0)) ≡ below (leavers z (window - 1) k) (getD notes (need z k + at .row) 0)
-  position-is = go (getD notes (need z k + at .row) 0) same-note noted (decLt (getD notes (need z k + at .row) 0) 64)
+  position-is = go (getD notes (need z k + at .row) 0) same-note noted (decLt (getD notes (need z k + at .row) 0) mostStrands)
     where
       same : strandsOf (leavingOf window sets k) ≡ leavers z (window - 1) k
       same = leaving-is window sets (λ i. []) [] [] k (o .tables .some-window)
 
-      go : (s : ℕ) → getD notes (at .end - at .rows + at .row) 0 ≡ s → below (leavers z (window - 1) k) s < length (leavers z (window - 1) k) → Dec (s < 64)
+      go : (s : ℕ) → getD notes (at .end - at .rows + at .row) 0 ≡ s → below (leavers z (window - 1) k) s < length (leavers z (window - 1) k) → Dec (s < mostStrands)
           → length (members (has (leavingOf window sets k)) (getD notes (at .end - at .rows + at .row) 0)) ≡ below (leavers z (window - 1) k) s
       go s f b (yes g) =
           ap (λ i. length (members (has (leavingOf window sets k)) i)) f
-          ∙ sym (below-members (has (leavingOf window sets k)) 64 s (omega arith))
+          ∙ sym (below-members (has (leavingOf window sets k)) mostStrands s (omega arith))
           ∙ ap (λ m. below m s) same
       go s f b (no g) =
           let past : below (leavers z (window - 1) k) s ≡ length (leavers z (window - 1) k) =
-          ap (λ m. below m s) (sym same) ∙ below-past (has (leavingOf window sets k)) 64 s (omega arith) ∙ ap length same in
+          ap (λ m. below m s) (sym same) ∙ below-past (has (leavingOf window sets k)) mostStrands s (omega arith) ∙ ap length same in
           absurd (omega arith)
 
-  leaving-few : length (leavers z (window - 1) k) ≤ 64
+  leaving-few : length (leavers z (window - 1) k) ≤ mostStrands
   leaving-few =
-      subst (λ m. length m ≤ 64) (leaving-is window sets (λ i. []) [] [] k (o .tables .some-window)) (length-le (has (leavingOf window sets k)) 64)
+      subst (λ m. length m ≤ mostStrands) (leaving-is window sets (λ i. []) [] [] k (o .tables .some-window)) (length-le (has (leavingOf window sets k)) mostStrands)
 
-  pub product-few : (p : ℕ) → p ≡ below (leavers z (window - 1) k) (getD notes (need z k + at .row) 0) → p * w ≤ 67108864
-  product-few p f = omega (arith, mul-le-mul {n₁ = p} {m₁ = w} {n₂ = 64} {m₂ = 1048576} (omega (arith, noted, leaving-few)) width-small)
+  pub product-few : (p : ℕ) → p ≡ below (leavers z (window - 1) k) (getD notes (need z k + at .row) 0) → p * w ≤ mostRows * mostStrands
+  product-few p f = omega (arith, mul-le-mul {n₁ = p} {m₁ = w} {n₂ = mostStrands} {m₂ = mostRows} (omega (arith, noted, leaving-few)) width-small)
 
-  pub row-few : (n : ℕ) → at .row / n ≤ 1048576
+  pub row-few : (n : ℕ) → at .row / n ≤ mostRows
   row-few n = omega (arith, div-le-self (at .row) n, row-in, all-few, o .tables .few-rows)
 
-  pub leaves-few : (n : ℕ) → n ≡ length (strandsOf (leavingOf window sets k)) → n * w ≤ 67108864
-  leaves-few n f = omega (arith, mul-le-mul {n₁ = n} {m₁ = w} {n₂ = 64} {m₂ = 1048576} (omega (arith, length-le (has (leavingOf window sets k)) 64)) width-small)
+  pub leaves-few : (n : ℕ) → n ≡ length (strandsOf (leavingOf window sets k)) → n * w ≤ mostRows * mostStrands
+  leaves-few n f = omega (arith, mul-le-mul {n₁ = n} {m₁ = w} {n₂ = mostStrands} {m₂ = mostRows} (omega (arith, length-le (has (leavingOf window sets k)) mostStrands)) width-small)
 
   pub stepped : (n p m from width : ℕ) → n ≡ count → p ≡ below (leavers z (window - 1) k) (getD notes (need z k + at .row) 0) → m ≡ length (strandsOf (leavingOf window sets k)) → width ≡ w → from ≡ need z k
       → record { row = p * width + at .row / n; rows = m * width; end = from } ≡ placeOf z k (rowBack z notes k (at .row))

@@ -2,7 +2,8 @@
 use mathlib.Core.List.{List, [], _∷_, _++_}
 use Prim.Native.Nat.{ℕ, zero, suc, _+_, _/_, _%_, _≤_, _<_}
 use lib.ListN.{length, getD}
-use Rattle.ledger_rows.specs.Scan.{Scan, Filled}
+use Rattle.units.specs.Limits.{mostRows}
+use Rattle.ledger_rows.specs.Scan.{Scan, EachHasStrand}
 use Rattle.ledger_rows.specs.Blocks.{size, leavers, cameFrom, need}
 use Rattle.ledger_rows.specs.Trace.{below}
 use Rattle.ledger_fill.specs.Handed.{setScan}
@@ -27,7 +28,7 @@ Noted z table n =
 -- what a way back is handed: a window, a strand for each bay, few rows, and a table that notes them all
 pub record Traceable (window : ℕ) (sets : List ℕ) (notes : List ℕ) : Type 0 where
   pub some-window : 0 < window
-  pub filled : Filled (setScan window sets) (length sets)
-  pub few-rows : need (setScan window sets) (length sets) ≤ 1048576
+  pub filled : EachHasStrand (setScan window sets) (length sets)
+  pub few-rows : need (setScan window sets) (length sets) ≤ mostRows
   pub noted-all : need (setScan window sets) (length sets) ≤ length notes
   pub noted : Noted (setScan window sets) notes (length sets)

@@ -1,12 +1,11 @@
 // The way back from a row of the last block to the filling that the notes lead to.
 ghost use mathlib.Core.Path.{_≡_};
-ghost use Prim.Native.Nat.{suc, _+_, _-_, _%_, _<_};
+ghost use Prim.Native.Nat.{_+_, _%_, _<_};
 ghost use lib.ListN.{length, getD};
-ghost use Rattle.ledger_rows.specs.Blocks.{size};
 ghost use Rattle.ledger_row_choice.specs.Row.{strandsOf};
 ghost use Rattle.ledger_fill.specs.Handed.{setScan};
 ghost use Rattle.ledger_way_back.specs.Tracing.{inOrder, traceIn, Traceable};
-ghost use Rattle.ledger_way_back.specs.Places.{placeOf, rowBack};
+ghost use Rattle.ledger_way_back.specs.Places.{placeOf, OnBlock, rowBack};
 
 // A place on the way: a row of a block, how many rows the block has, and where it ends.
 pub struct Place {
@@ -33,7 +32,7 @@ fn member(set: u64, p: usize) -> u32
 fn strand_at(sets: &[u64], k: usize, i: usize) -> u32
     requires { ⌜ k < length (now sets) ⌝ }
     requires { ⌜ 0 < length (strandsOf (getD (now sets) k 0)) ⌝ }
-    ensures { λ r. ⌜ r ≡ getD (strandsOf (getD (now (sets .entry)) k 0)) (i % length (strandsOf (getD (now (sets .entry)) k 0))) 0 ⌝ }
+    ensures { λ r. let strands = strandsOf (getD (now (sets .entry)) k 0) in ⌜ r ≡ getD strands (i % length strands) 0 ⌝ }
 {
     let set = sets[k];
     member(set, i % sets::size(set) as usize)
@@ -42,8 +41,9 @@ fn strand_at(sets: &[u64], k: usize, i: usize) -> u32
 // From a row of bay k's block to the row of the block before from which it came.
 fn step_back(window: usize, sets: &[u64], notes: &[u8], k: usize, at: Place) -> Place
     requires { ⌜ Traceable window (now sets) (now notes) ⌝ }
-    requires { ⌜ (k < length (now sets)) × (at ≡ placeOf (setScan window (now sets)) (k + 1) (at .row)) × (at .row < size (setScan window (now sets)) (k + 1) (suc (window - 1))) ⌝ }
-    ensures { λ r. ⌜ r ≡ placeOf (setScan window (now (sets .entry))) k (rowBack (setScan window (now (sets .entry))) (now (notes .entry)) k (at .row)) ⌝ }
+    requires { ⌜ k < length (now sets) ⌝ }
+    requires { ⌜ OnBlock (setScan window (now sets)) (k + 1) at ⌝ }
+    ensures { λ r. let z = setScan window (now (sets .entry)) in ⌜ r ≡ placeOf z k (rowBack z (now (notes .entry)) k (at .row)) ⌝ }
 {
     let set = sets[k];
     let count = sets::size(set) as usize;
@@ -51,7 +51,7 @@ fn step_back(window: usize, sets: &[u64], notes: &[u8], k: usize, at: Place) -> 
     let from = at.end - at.rows;
     let place = from + at.row;
     let leaves = ledger_fill::leaving(window, sets, k);
-    let position = sets::position(leaves, wide(notes[place])) as usize;
+    let position = sets::position(leaves, noted_strand(notes[place])) as usize;
     Place {
         row: position * width + at.row / count,
         rows: sets::size(leaves) as usize * width,
@@ -60,7 +60,7 @@ fn step_back(window: usize, sets: &[u64], notes: &[u8], k: usize, at: Place) -> 
 }
 
 // A note as a strand's number.
-fn wide(note: u8) -> u32
+fn noted_strand(note: u8) -> u32
     ensures { λ r. ⌜ r ≡ note ⌝ }
 {
     note as u32
@@ -70,8 +70,10 @@ fn wide(note: u8) -> u32
 // last block. The order is that of the scan.
 pub fn trace(window: usize, sets: &[u64], notes: &[u8], last: Place, order: &mut [u32])
     requires { ⌜ Traceable window (now sets) (now notes) ⌝ }
-    requires { ⌜ (last ≡ placeOf (setScan window (now sets)) (length (now sets)) (last .row)) × (last .row < size (setScan window (now sets)) (length (now sets)) (suc (window - 1))) × (length (now order) ≡ length (now sets)) ⌝ }
-    ensures { λ _. ⌜ now (order .exit) ≡ inOrder (traceIn (setScan window (now (sets .entry))) (now (notes .entry)) (length (now (sets .entry))) (last .row)) ⌝ }
+    requires { ⌜ length (now order) ≡ length (now sets) ⌝ }
+    requires { ⌜ OnBlock (setScan window (now sets)) (length (now sets)) last ⌝ }
+    ensures { λ _. let z = setScan window (now (sets .entry)) in
+        ⌜ now (order .exit) ≡ inOrder (traceIn z (now (notes .entry)) (length (now (sets .entry))) (last .row)) ⌝ }
 {
     let mut at = last;
     let mut k = sets.len();

@@ -19,7 +19,8 @@ use Rattle.ledger_rows.specs.Blocks.{need}
 use Rattle.ledger_rows.specs.LeastEnergyTheorem.{eachWith, choices as scanChoices, windows, EndsIn as ScanEndsIn}
 use Rattle.ledger_rows.proofs.Windows.{length-choices}
 use Rattle.run_least_layout.specs.Run.{systemScan}
-use Rattle.run_least_layout.proofs.Meaning.{legal-below, strands-are}
+use Rattle.bay_legal_at.proofs.StrandBelow.{strand-below as legal-below}
+use Rattle.run_least_layout.proofs.Meaning.{strands-are}
 use Rattle.run_least_layout.proofs.Fillings.{Fit, newestFirst}
 use Rattle.run_audit_trail.specs.Rows.{shorterSide, windowAfter, oldest, eachThen, choices, rowsAfter, begins, EndsIn}
 use Rattle.run_audit_trail.proofs.Turned.{turned, length-turned, turned-twice, turned-more, turned-drop, take-fewer}

@@ -36,7 +36,8 @@ use Rattle.ledger_row_choice.proofs.Reading.{any-default}
 use Rattle.run_least_layout.specs.Run.{systemScan, runNeed, leastSum, leastLayout}
 use Rattle.run_least_layout.specs.Layouts.{LeastLayoutTheorem}
 use Rattle.run_least_layout.proofs.Passed.{fit, run-is-right}
-use Rattle.run_sets.specs.Finished.{front, tableAfter}
+use Rattle.text_fronts.specs.Front.{front}
+use Rattle.run_sets.specs.Finished.{tableAfter}
 use Rattle.sdc2d_thermo.specs.Run.{earlyVerdict, sumVerdict, runVerdict, mfeAnswer, layoutAfter, energiesAfter, notesAfter}
 use Rattle.sdc2d_thermo.proofs.mfe_configuration.Kinds as kinds
 use Rattle.sdc2d_thermo.proofs.mfe_configuration.Reads as reads

@@ -26,7 +26,7 @@ use Rattle.bay_legal.specs.Sets.{bays, setsTo, firstEmpty, emptyVerdict}
 use Rattle.bay_legal.proofs.Fronts.{length-sets}
 use Rattle.bay_legal.specs.Seven.{SevenTheorem}
 use Rattle.bay_legal.proofs.Seven.{FirstWithout, seven, set-of-bay, seven-exactly}
-use Rattle.run_least_layout.proofs.Meaning.{legal-below}
+use Rattle.bay_legal_at.proofs.StrandBelow.{strand-below as legal-below}
 use Rattle.run_choice_price.specs.Choice.{chosenLegal, chosenSets}
 
 -- ---- one set of a table changed

@@ -12,11 +12,13 @@ use lib.Ieee.{Float, binary64, add}
 use lib.ListN.{length, getD, drop, drop-of-length-le}
 use lib.Seq.{drop-cons}
 use borrow.Author.Tests.{lt-leb, eq-eqb}
+use Rattle.units.specs.Limits.{mostStrands}
 use Rattle.bay_system.specs.System.{System}
 use Rattle.energy_bays.specs.Energies.{bayEnergy, edgeEnergy}
 use Rattle.energy_bays.specs.ScanSum.{withBond, bayNumber, scanSumTo, scannedStrand}
 use Rattle.bay_lists.specs.Lists.{Constraints}
 use Rattle.bay_legal_at.specs.Legal.{isLegal}
+use Rattle.bay_legal_at.proofs.StrandBelow.{strand-below}
 use Rattle.bay_legal_at.specs.Layouts.{LayoutBy}
 use Rattle.bay_scan_order.specs.Scan.{byRows, window, bayAt, numberAt}
 use Rattle.bay_legal.specs.Sets.{bays}
@@ -24,12 +26,12 @@ use Rattle.bay_scan_order.proofs.Scanned.{bay-inside, number-inside, scanned, n
 use Rattle.ledger_rows.specs.Scan.{In, Legal, scanSum}
 use Rattle.ledger_rows.proofs.Lists.{tab-at, length-tab}
 use Rattle.run_least_layout.specs.Run.{scanBy, systemScan, rowByRow}
-use Rattle.run_least_layout.proofs.Meaning.{in-may, may-in, added-by, legal-below}
+use Rattle.run_least_layout.proofs.Meaning.{in-may, may-in, added-by}
 
 -- what the tests of a system have seen to
 pub record Fit (s : System) : Type 0 where
   pub some-strands : 1 ≤ s .sizes .strands
-  pub strands : s .sizes .strands ≤ 64
+  pub strands : s .sizes .strands ≤ mostStrands
   pub some-window : 1 ≤ window (s .sizes .rows) (s .sizes .cols)
 
 -- the strands of the first k bays of the scan, newest first
@@ -87,13 +89,13 @@ module _ (s : System) where
   module _ (may : ℕ → ℕ → Bool) (below : (b t : ℕ) → may b t ≡ true → t < s .sizes .strands) (fit : Fit s) where
     -- ---- legal strands on the first bays, and the filling that they make
     module _ (strandAt : ℕ → ℕ) (last : ℕ) (inside : last ≤ n) (legal : (j : ℕ) → j < last → may (bayAt (s .sizes .rows) (s .sizes .cols) j) (strandAt j) ≡ true) where
-      strand-below : (k : ℕ) → k < last → strandAt k < s .sizes .strands
-      strand-below k h = below _ (strandAt k) (legal k h)
+      each-below : (k : ℕ) → k < last → strandAt k < s .sizes .strands
+      each-below k h = below _ (strandAt k) (legal k h)
 
       pub strands-by : (k : ℕ) → k ≤ last → Legal (scanBy s may) k (newestFirst strandAt k)
       unfolding newestFirst
       strands-by zero h = tt
-      strands-by (suc k) h = (may-in s may k (strandAt k) (omega (arith, h, inside)) (lt-of-lt-of-le (strand-below k h) (fit .strands)) (legal k h), strands-by k (omega (arith, h)))
+      strands-by (suc k) h = (may-in s may k (strandAt k) (omega (arith, h, inside)) (lt-of-lt-of-le (each-below k h) (fit .strands)) (legal k h), strands-by k (omega (arith, h)))
 
       -- the strand of the previous major line, where there is one
       before-is : (k : ℕ) → k < last → (u t : ℕ)
@@ -108,7 +110,7 @@ module _ (s : System) where
               let within : m - 1 < k = omega (arith, l, fit .some-window) in
               let same : getD (newestFirst strandAt k) (m - 1) 0 ≡ strandAt (k - m) = newest-at strandAt k (m - 1) within ∙ ap strandAt place in
               let earlier : k - m < last = omega (arith, h) in
-              (subst (λ (a : ℕ). a < s .sizes .strands) (sym same) (strand-below (k - m) earlier), ap (λ (a : ℕ). bayNumber s k a u t) same)
+              (subst (λ (a : ℕ). a < s .sizes .strands) (sym same) (each-below (k - m) earlier), ap (λ (a : ℕ). bayNumber s k a u t) same)
           by (no l) =
               let early : k < m = omega (arith, l) in
               let past : k ≤ m - 1 = omega (arith, early) in
@@ -123,7 +125,7 @@ module _ (s : System) where
       beside-is (suc k) h a t =
           let same : getD (newestFirst strandAt (suc k)) 0 0 ≡ strandAt (suc k - 1) = newest-at strandAt (suc k) 0 (omega arith) in
           let earlier : suc k - 1 < last = omega (arith, h) in
-          (subst (λ (u : ℕ). u < s .sizes .strands) (sym same) (strand-below (suc k - 1) earlier), ap (λ (u : ℕ). bayNumber s (suc k) a u t) same)
+          (subst (λ (u : ℕ). u < s .sizes .strands) (sym same) (each-below (suc k - 1) earlier), ap (λ (u : ℕ). bayNumber s (suc k) a u t) same)
 
       pub strands-sum-by : (k : ℕ) → k ≤ last → scanSum (scanBy s may) (newestFirst strandAt k) ≡ scanSumTo s strandAt k
       unfolding newestFirst scanSum scanSumTo
@@ -136,7 +138,7 @@ module _ (s : System) where
           let before = before-is k h u t in
           let beside = beside-is k h (strandAt (k - m)) t in
           ap₂ (add binary64) (strands-sum-by k (omega (arith, h)))
-          (ap (λ (j : ℕ). scanBy s may .added j a u t) (length-newest strandAt k) ∙ added-by s may k a u t (omega (arith, h, inside)) (fit .strands) (before .0) (beside .0) (strand-below k h) ∙ before .1 ∙ beside .1)
+          (ap (λ (j : ℕ). scanBy s may .added j a u t) (length-newest strandAt k) ∙ added-by s may k a u t (omega (arith, h, inside)) (fit .strands) (before .0) (beside .0) (each-below k h) ∙ before .1 ∙ beside .1)
 
     -- ---- from a layout to its filling
     module _ (layout : List ℕ) (legal : LayoutBy s may layout) where
@@ -214,17 +216,17 @@ module _ (s : System) (c : Constraints) (fit : Fit s) where
       (legal : (j : ℕ) → j < last → isLegal s c (bayAt (s .sizes .rows) (s .sizes .cols) j) (strandAt j) ≡ true)
     where
       pub strands-legal : (k : ℕ) → k ≤ last → Legal (systemScan s c) k (newestFirst strandAt k)
-      strands-legal = strands-by s (isLegal s c) (legal-below s c) fit strandAt last inside legal
+      strands-legal = strands-by s (isLegal s c) (strand-below s c) fit strandAt last inside legal
 
       pub strands-sum : (k : ℕ) → k ≤ last → scanSum (systemScan s c) (newestFirst strandAt k) ≡ scanSumTo s strandAt k
-      strands-sum = strands-sum-by s (isLegal s c) (legal-below s c) fit strandAt last inside legal
+      strands-sum = strands-sum-by s (isLegal s c) (strand-below s c) fit strandAt last inside legal
 
   pub legal-long : (k : ℕ) (g : List ℕ) → Legal (systemScan s c) k g → length g ≡ k
-  legal-long = long-by s (isLegal s c) (legal-below s c) fit
+  legal-long = long-by s (isLegal s c) (strand-below s c) fit
 
   pub each-legal : (j : ℕ) (g : List ℕ) → Legal (systemScan s c) j g → j ≤ bays (s .sizes) → (k : ℕ) → k < j
       → isLegal s c (bayAt (s .sizes .rows) (s .sizes .cols) k) (getD g (j - suc k) 0) ≡ true
-  each-legal = each-by s (isLegal s c) (legal-below s c) fit
+  each-legal = each-by s (isLegal s c) (strand-below s c) fit
 
   pub filling-back : (f : List ℕ) → Legal (systemScan s c) (bays (s .sizes)) f → fillingTo s (rowByRow (s .sizes .rows) (s .sizes .cols) f) (bays (s .sizes)) ≡ f
-  filling-back = back-by s (isLegal s c) (legal-below s c) fit
+  filling-back = back-by s (isLegal s c) (strand-below s c) fit

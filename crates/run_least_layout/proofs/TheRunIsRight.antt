@@ -13,8 +13,9 @@ use Rattle.energy_bays.specs.Energies.{noEnergy}
 use Rattle.energy_bays.proofs.Laws.{no-energy-is}
 use Rattle.bay_lists.specs.Lists.{Constraints}
 use Rattle.bay_legal_at.specs.Legal.{isLegal}
+use Rattle.bay_legal_at.proofs.StrandBelow.{strand-below}
 use Rattle.bay_legal.specs.Sets.{bays}
-use Rattle.ledger_rows.specs.Scan.{Scan, Legal, Filled, scanSum}
+use Rattle.ledger_rows.specs.Scan.{Scan, Legal, EachHasStrand, scanSum}
 use Rattle.ledger_rows.specs.Trace.{layout}
 use Rattle.ledger_rows.specs.LeastEnergyTheorem.{LeastEnergyTheorem}
 use Rattle.ledger_rows.proofs.TheLedgerIsRight.{the-ledger-is-right}
@@ -22,7 +23,7 @@ use Rattle.run_least_layout.specs.Run.{scanBy, systemScan, leastSumBy, r
 use Rattle.run_least_layout.specs.Layouts.{LeastBy, LeastLayoutTheorem}
 use Rattle.bay_legal_at.specs.Layouts.{LayoutBy}
 use Rattle.energy_bays.specs.ScanSum.{scanSumOf}
-use Rattle.run_least_layout.proofs.Meaning.{rise-by, legal-below}
+use Rattle.run_least_layout.proofs.Meaning.{rise-by}
 use Rattle.run_least_layout.proofs.Fillings.{Fit, fillingTo, filling-by, sum-by, layout-by, back-by}
 
 -- the test of an energy is the order's
@@ -36,7 +37,7 @@ of-bad : (x : Float) → Bad x → noEnergy x ≡ true
 of-bad x e = no-energy-is x ∙ ap not e
 
 module _ (s : System) (may : ℕ → ℕ → Bool) (below : (b t : ℕ) → may b t ≡ true → t < s .sizes .strands) (fit : Fit s)
-    (filled : Filled (scanBy s may) (bays (s .sizes))) where
+    (filled : EachHasStrand (scanBy s may) (bays (s .sizes))) where
   abbrev z : Scan
   z = scanBy s may
 
@@ -77,9 +78,9 @@ module _ (s : System) (may : ℕ → ℕ → Bool) (below : (b t : ℕ) → may 
       }
 
 -- ---- of the legal strands
-module _ (s : System) (c : Constraints) (fit : Fit s) (filled : Filled (systemScan s c) (bays (s .sizes))) where
+module _ (s : System) (c : Constraints) (fit : Fit s) (filled : EachHasStrand (systemScan s c) (bays (s .sizes))) where
   pub ledger : LeastEnergyTheorem (systemScan s c) (bays (s .sizes))
-  ledger = ledger-by s (isLegal s c) (legal-below s c) fit filled
+  ledger = ledger-by s (isLegal s c) (strand-below s c) fit filled
 
   pub the-run-is-right : LeastLayoutTheorem s c
-  the-run-is-right = right-by s (isLegal s c) (legal-below s c) fit filled
+  the-run-is-right = right-by s (isLegal s c) (strand-below s c) fit filled

@@ -3,8 +3,9 @@ use Prim.Native.Nat.{ℕ}
 use mathlib.Core.Bool.{_||_}
 use mathlib.Core.List.{[], _∷_}
 use lib.Dec.{ltb}
+use Rattle.units.specs.Limits.{mostRows}
 use Rattle.units.specs.Refusals.{Verdict, refuseIf, _▷_}
 
--- 8: the ledger would need more than 1,048,576 rows; then 9, with the need: a lent table is shorter
+-- 8: the ledger would need more rows than it may have; then 9, with the need: a lent table is shorter
 abbrev pub roomVerdict : (need energies notes : ℕ) → Verdict
-roomVerdict need energies notes = refuseIf (ltb 1048576 need) 8 [] ▷ refuseIf (ltb energies need || ltb notes need) 9 (need ∷ [])
+roomVerdict need energies notes = refuseIf (ltb mostRows need) 8 [] ▷ refuseIf (ltb energies need || ltb notes need) 9 (need ∷ [])

@@ -6,8 +6,10 @@ use mathlib.Core.List.{List, [], _∷_, _++_}
 use native.Mathlib.Nat.{zero-add}
 use lib.Dec.{leb, ltb}
 use lib.Ieee.{Float, inf, lt, binary64, ofBits}
-use lib.ListN.{length, take, drop, replicate}
+use lib.ListN.{length, drop, replicate}
 use borrow.Author.Tests.{leb-false, ltb-false, lt-ltb}
+use Rattle.units.specs.Limits.{mostRows}
+use Rattle.text_fronts.specs.Front.{front}
 use Rattle.units.specs.declared.Refusal.{Refusal}
 use Rattle.units.specs.declared.Check.{Check}
 use Rattle.units.specs.declared.Check.the-variants.{Passed, Refused}
@@ -19,17 +21,18 @@ use Rattle.units.proofs.Verdicts.{passed, refused-keeps, no-fault, first-passes
 use Rattle.units.proofs.Answers.{refused, an-energy}
 use Rattle.energy_bays.proofs.Laws.{no-energy-is}
 use Rattle.energy_state.specs.StateG.{energyVerdict, inKcal}
-use Rattle.ledger_rows.specs.Scan.{Scan, Filled}
+use Rattle.ledger_rows.specs.Scan.{Scan, EachHasStrand}
 use Rattle.ledger_rows.specs.Blocks.{need, energyTable, noteTable}
 use Rattle.ledger_rows.specs.Trace.{answer, layout}
-use Rattle.ledger_fill.specs.Handed.{addedOf, setScan, runScan, capped}
+use Rattle.ledger_fill.specs.Handed.{addedOf, setScan, bayRow, runScan, Roomy, capped}
 use Rattle.ledger_rows.proofs.SameStrands.{need-same}
 use Rattle.bay_scan_order.specs.Scan.{window}
 use Rattle.ledger_block.specs.Block.{over}
 use Rattle.run_room.specs.Room.{roomVerdict}
 use Rattle.run_least_layout.specs.Run.{rowByRow}
-use Rattle.run_system.specs.Steps.{OnBoard, Roomy, Ran}
-use Rattle.run_sets.specs.Finished.{front, Finished}
+use Rattle.run_least_layout.proofs.Passed.{some-side}
+use Rattle.run_system.specs.Steps.{OnBoard, Ran}
+use Rattle.run_sets.specs.Finished.{Finished}
 
 -- ---- refused before anything is written
 refused-lays : {A : Type 0} {x : Check} {r : Refusal} (v u : Verdict) (new old : A) → x ≡ check v → x ≡ Refused r → old ≡ ifPasses (v ▷ u) new old
@@ -59,18 +62,18 @@ past v w z rows cols kelvin {r} {l₀} {l₁} {e₀} {e₁} {n₀} {n₁} p f =
 
 -- ---- the need as the code caps it
 capped-room : (need energies notes : ℕ) → roomVerdict (capped need) energies notes ≡ roomVerdict need energies notes
-capped-room need energies notes = by (leb need 1048576) refl
+capped-room need energies notes = by (leb need mostRows) refl
   where
-    by : (b : Bool) → leb need 1048576 ≡ b → roomVerdict (cond b need 1048577) energies notes ≡ roomVerdict need energies notes
+    by : (b : Bool) → leb need mostRows ≡ b → roomVerdict (cond b need (mostRows + 1)) energies notes ≡ roomVerdict need energies notes
     by true e = refl
-    by false e = sym (ap (λ (t : Bool). refuseIf t 8 [] ▷ refuseIf (ltb energies need || ltb notes need) 9 (need ∷ [])) (lt-ltb 1048576 need (leb-false need 1048576 e)))
+    by false e = sym (ap (λ (t : Bool). refuseIf t 8 [] ▷ refuseIf (ltb energies need || ltb notes need) 9 (need ∷ [])) (lt-ltb mostRows need (leb-false need mostRows e)))
 
 pub room-by-cap : {x : Check} {n : ℕ} (need energies notes : ℕ) → n ≡ capped need → x ≡ check (roomVerdict n energies notes) → x ≡ check (roomVerdict need energies notes)
 room-by-cap need energies notes c e = e ∙ ap (λ (k : ℕ). check (roomVerdict k energies notes)) c ∙ ap check (capped-room need energies notes)
 
 -- what a passed test of the room tells
 pub record Fits (need energies notes : ℕ) : Type 0 where
-  pub few : need ≤ 1048576
+  pub few : need ≤ mostRows
   pub energies-fit : need ≤ energies
   pub notes-fit : need ≤ notes
 
@@ -80,11 +83,11 @@ neither false b e = (refl, e)
 
 pub fits : (need energies notes : ℕ) → roomVerdict need energies notes ≡ passes → Fits need energies notes
 fits need energies notes e =
-    let eight = refuseIf (ltb 1048576 need) 8 [] in
+    let eight = refuseIf (ltb mostRows need) 8 [] in
     let nine = refuseIf (ltb energies need || ltb notes need) 9 (need ∷ []) in
     let both = neither (ltb energies need) (ltb notes need) (no-fault (ltb energies need || ltb notes need) 9 (need ∷ []) (rest-passes eight nine e)) in
     record {
-      few = ltb-false 1048576 need (no-fault (ltb 1048576 need) 8 [] (first-passes eight nine e));
+      few = ltb-false mostRows need (no-fault (ltb mostRows need) 8 [] (first-passes eight nine e));
       energies-fit = ltb-false energies need (both .0);
       notes-fit = ltb-false notes need (both .1);
     }
@@ -122,18 +125,14 @@ pub need-of : (rows cols w : ℕ) (scan : List ℕ) (sites major side : List Flo
 need-of rows cols w scan sites major side is long =
     ap (λ (v : ℕ). need (setScan v scan) (length scan)) is
     ∙ ap (need (setScan (window rows cols) scan)) long
-    ∙ need-same (setScan (window rows cols) scan) (addedOf (window rows cols) (λ (k : ℕ). take 64 (drop (k * 64) sites)) major side) (rows * cols)
+    ∙ need-same (setScan (window rows cols) scan) (addedOf (window rows cols) (bayRow sites) major side) (rows * cols)
 
 -- the shorter side is there
-pub some-side : {rows cols scan lent : ℕ} → OnBoard rows cols scan lent → 0 < window rows cols
-some-side {rows} {cols} on = by (leb cols rows)
-  where
-    by : (b : Bool) → 0 < cond b cols rows
-    by true = on .some-cols
-    by false = on .some-rows
+pub some-window : {rows cols scan lent : ℕ} → OnBoard rows cols scan lent → 0 < window rows cols
+some-window {rows} {cols} on = some-side (leb cols rows) rows cols (on .some-rows) (on .some-cols)
 
 pub roomy : (rows cols : ℕ) (scan : List ℕ) (sites major side : List Float) (energies notes lent : ℕ) → OnBoard rows cols (length scan) lent
-    → Filled (setScan (window rows cols) scan) (length scan) → {x : Check}
+    → EachHasStrand (setScan (window rows cols) scan) (length scan) → {x : Check}
     → x ≡ check (roomVerdict (need (runScan (window rows cols) scan sites major side) (rows * cols)) energies notes) → x ≡ Passed
     → Roomy (window rows cols) scan energies notes
 roomy rows cols scan sites major side energies notes lent on filled c p =
@@ -141,9 +140,9 @@ roomy rows cols scan sites major side energies notes lent on filled c p =
     let fit = fits count energies notes (passed (roomVerdict count energies notes) c p) in
     let same = need-of rows cols (window rows cols) scan sites major side refl (on .scanned) in
     record {
-      some-side = some-side on;
+      some-window = some-window on;
       filled = filled;
-      few-rows = subst (λ (k : ℕ). k ≤ 1048576) (sym same) (fit .few);
+      few-rows = subst (λ (k : ℕ). k ≤ mostRows) (sym same) (fit .few);
       energies-fit = subst (λ (k : ℕ). k ≤ energies) (sym same) (fit .energies-fit);
       notes-fit = subst (λ (k : ℕ). k ≤ notes) (sym same) (fit .notes-fit);
     }

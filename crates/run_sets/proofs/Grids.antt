@@ -7,6 +7,7 @@ use native.Mathlib.Nat.{mul-le-mul}
 use native.Mathlib.Omega.{arith}
 use lib.ListN.{length, getD, take}
 use lib.Seq.{getD-take}
+use Rattle.units.specs.Limits.{mostSide}
 use Rattle.units.specs.declared.Check.{Check}
 use Rattle.units.specs.Refusals.{passes, check}
 use Rattle.energy_bonds.specs.Readable.{Readable}
@@ -20,10 +21,10 @@ use Rattle.bay_legal.specs.Sets.{bays, setsTo, shapeVerdict, emptyVerdict}
 use Rattle.bay_legal.proofs.Answered.{right}
 use Rattle.bay_legal.proofs.Fronts.{front-fits, length-sets}
 use Rattle.bay_scan_order.proofs.Scanned.{bay-inside}
-use Rattle.ledger_rows.specs.Scan.{Filled}
+use Rattle.ledger_rows.specs.Scan.{EachHasStrand}
 use Rattle.ledger_fill.specs.Handed.{setScan}
 use Rattle.run_scan_tables.specs.Order.{scanSets}
-use Rattle.run_tables.specs.Tables.{Stocked}
+use Rattle.run_tables.specs.Tables.{ReadableBays}
 use Rattle.run_system.specs.Steps.{OnBoard}
 use Rattle.run_system.proofs.Ordered.{tab-same}
 use Rattle.run_least_layout.proofs.Passed.{filled-by}
@@ -36,7 +37,7 @@ module _ (s : System) (c : Constraints) (lent : ℕ) (p : systemVerdict s ≡ pa
   cols = s .sizes .cols
 
   pub asks : Grid (s .sizes) (s .strandGlues) (s .scaffold) (s .deltaG) (s .entropy) (s .seeds)
-      × ((offsetsShaped (length (s .scaffold)) c ≡ true) × (((rows ≤ 32) × (cols ≤ 32) × (length (s .scaffold) ≡ rows * cols)) × (length (s .scaffold) ≤ 1024)))
+      × ((offsetsShaped (length (s .scaffold)) c ≡ true) × (((rows ≤ mostSide) × (cols ≤ mostSide) × (length (s .scaffold) ≡ rows * cols)) × (length (s .scaffold) ≤ mostSide * mostSide)))
   asks =
       let f = fine s p in
       let sizes = f .shape .sizes in
@@ -48,7 +49,7 @@ module _ (s : System) (c : Constraints) (lent : ℕ) (p : systemVerdict s ≡ pa
       let sizes = fine s p .shape .sizes in
       record { some-rows = sizes .some-rows; few-rows = sizes .rows; some-cols = sizes .some-cols; few-cols = sizes .cols; scanned = refl; laid = right s lent c (sym (ap check q)) refl .room }
 
-  pub stock : Stocked (s .sizes) (s .scaffold) (s .logs)
+  pub stock : ReadableBays (s .sizes) (s .scaffold) (s .logs)
   stock =
       let f = fine s p in
       record { few-rows = f .shape .sizes .rows; few-cols = f .shape .sizes .cols; bays = f .shape .scaffold; glues = f .scaffold; each-strand = f .shape .logs }
@@ -73,8 +74,8 @@ module _ (s : System) (c : Constraints) (lent : ℕ) (p : systemVerdict s ≡ pa
       pub own-room : rows * cols ≤ length own
       own-room = front-fits (rows * cols) own own-sets (length-sets may (rows * cols))
 
-      pub own-filled : emptyVerdict rows cols sets ≡ passes → Filled (setScan (window rows cols) (scanSets rows cols own)) (rows * cols)
-      own-filled none = subst (λ (l : List ℕ). Filled (setScan (window rows cols) l) (rows * cols)) (sym in-scan) (filled-by s may none)
+      pub own-filled : emptyVerdict rows cols sets ≡ passes → EachHasStrand (setScan (window rows cols) (scanSets rows cols own)) (rows * cols)
+      own-filled none = subst (λ (l : List ℕ). EachHasStrand (setScan (window rows cols) l) (rows * cols)) (sym in-scan) (filled-by s may none)
 
     pub empty-is : {x : Check} → x ≡ check (emptyVerdict rows cols (setsTo may (length (s .scaffold)))) → x ≡ check (emptyVerdict rows cols sets)
     empty-is e = e ∙ ap (λ (n : ℕ). check (emptyVerdict rows cols (setsTo may n))) (fine s p .shape .scaffold)

@@ -2,9 +2,10 @@
 use Prim.Native.Nat.{ℕ, _*_}
 use mathlib.Core.Path.{_≡_}
 use mathlib.Core.Bool.{Bool}
-use mathlib.Core.List.{List, _++_}
+use mathlib.Core.List.{List}
 use lib.Ieee.{Float, binary64, ofBits}
-use lib.ListN.{length, drop, replicate}
+use lib.ListN.{length, replicate}
+use Rattle.text_fronts.specs.Front.{front}
 use Rattle.units.specs.declared.EnergyAnswer.{EnergyAnswer}
 use Rattle.units.specs.Answers.{energyAnswer}
 use Rattle.units.specs.Refusals.{Verdict, _▷_, ifPasses}
@@ -15,10 +16,6 @@ use Rattle.ledger_rows.specs.Blocks.{need, energyTable, noteTable}
 use Rattle.ledger_rows.specs.Trace.{answer, layout}
 use Rattle.run_room.specs.Room.{roomVerdict}
 use Rattle.run_least_layout.specs.Run.{tableScan, scanBy, needBy, rowByRow}
-
--- the front of a table written anew
-abbrev pub front : {A : Type 0} → (new old : List A) → List A
-front new old = new ++ drop (length new) old
 
 -- what a lent table holds afterwards: refused earlier, what it held; refused as 10, zeros in the needed places; else the ledger
 abbrev pub tableAfter : {A : Type 0} → (early last : Verdict) → (count : ℕ) → (zero : A) → (new old : List A) → List A

@@ -5,6 +5,7 @@ ghost use Rattle.bay_scan_order.specs.Scan.{window};
 ghost use Rattle.ledger_fill.specs.Handed.{runScan, Fillable};
 ghost use Rattle.run_system.specs.Steps.{OnBoard, Ran};
 use energy_bays::no_energy;
+use ledger_row_choice::PAIRS;
 use run_scan_tables::lay_out;
 use run_scan_tables::window;
 
@@ -14,8 +15,8 @@ pub(crate) fn run_over(
     cols: usize,
     scan: &[u64],
     sites: &[f64],
-    major: &[f64; 4096],
-    side: &[f64; 4096],
+    major: &[f64; PAIRS],
+    side: &[f64; PAIRS],
     order: &mut [u32],
     layout: &mut [u32],
     energies: &mut [f64],
@@ -24,7 +25,8 @@ pub(crate) fn run_over(
     requires { ⌜ Fillable (window rows cols) (now scan) (now sites) (length (now energies)) (length (now notes)) ⌝ }
     requires { ⌜ OnBoard rows cols (length (now scan)) (length (now layout)) ⌝ }
     requires { ⌜ length (now order) ≡ length (now scan) ⌝ }
-    ensures { λ r. ⌜ Ran (runScan (window rows cols) (now (scan .entry)) (now (sites .entry)) (now (major .entry)) (now (side .entry))) rows cols r (now (layout .entry)) (now (layout .exit)) (now (energies .entry)) (now (energies .exit)) (now (notes .entry)) (now (notes .exit)) ⌝ }
+    ensures { λ r. let k = runScan (window rows cols) (now (scan .entry)) (now (sites .entry)) (now (major .entry)) (now (side .entry)) in
+        ⌜ Ran k rows cols r (now (layout .entry)) (now (layout .exit)) (now (energies .entry)) (now (energies .exit)) (now (notes .entry)) (now (notes .exit)) ⌝ }
 {
     let sum = ledger_run::run(
         window(rows, cols),

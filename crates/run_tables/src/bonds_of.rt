@@ -1,12 +1,15 @@
 // The bonds of all pairs of strands.
 ghost use mathlib.Core.Path.{_≡_};
+ghost use Prim.Native.Nat.{_*_};
 ghost use lib.ListN.{length};
+ghost use Rattle.units.specs.Limits.{mostStrands};
 ghost use Rattle.energy_bonds.specs.Readable.{Readable};
 ghost use Rattle.run_tables.specs.Tables.{pairEnergy, bondTable};
 use bay_system::Sizes;
 use energy_bays::edge_beta_between;
+use units::MOST_STRANDS;
 
-// The bond of two numbers below 64, 0.0 where one is no strand.
+// The bond of two numbers below the limit of strands, 0.0 where one is no strand.
 fn pair_energy(
     z: Sizes,
     strand_glues: &[u32],
@@ -27,7 +30,7 @@ fn pair_energy(
     0.0
 }
 
-// Writes the bonds of all pairs, s and t at place t · 64 + s.
+// Writes the bonds of all pairs, a row for each t: s is the row's place s.
 pub fn fill_bonds(
     z: Sizes,
     strand_glues: &[u32],
@@ -37,7 +40,7 @@ pub fn fill_bonds(
     table: &mut [f64],
 )
     requires { ⌜ Readable (z .strands) (z .glues) (now «strand_glues») (now «delta_g») (now entropy) ⌝ }
-    requires { ⌜ length (now table) ≡ 4096 ⌝ }
+    requires { ⌜ length (now table) ≡ mostStrands * mostStrands ⌝ }
     ensures { λ _. ⌜ now (table .exit) ≡ bondTable z (now («strand_glues» .entry)) (now («delta_g» .entry)) (now (entropy .entry)) «north_south» ⌝ }
 {
     let mut i = 0;
@@ -48,8 +51,8 @@ pub fn fill_bonds(
             delta_g,
             entropy,
             north_south,
-            i % 64,
-            i / 64,
+            i % MOST_STRANDS,
+            i / MOST_STRANDS,
         );
         i += 1;
     }

@@ -3,4 +3,5 @@ mod bonds_of;
 mod sites;
 
 pub use bonds_of::fill_bonds;
+pub use sites::MOST_SITES;
 pub use sites::fill_sites;

@@ -2,13 +2,19 @@
 ghost use mathlib.Core.Path.{_≡_};
 ghost use Prim.Native.Nat.{_*_, _≤_, _<_};
 ghost use lib.ListN.{length, take};
+ghost use Rattle.units.specs.Limits.{mostStrands};
 ghost use Rattle.energy_bonds.specs.Readable.{Readable};
-ghost use Rattle.run_tables.specs.Tables.{siteEnergy, siteTable, Stocked};
+ghost use Rattle.run_tables.specs.Tables.{siteEnergy, siteTable, ReadableBays};
 use bay_scan_order::bay_at;
 use bay_system::Sizes;
 use energy_bays::site_beta_energy;
+use run_scan_tables::MOST_BAYS;
+use units::MOST_STRANDS;
 
-// The energy of a bay with a number below 64, 0.0 where it is no strand.
+// The places of the table of all bays' energies, where there are as many bays and strands as may be.
+pub const MOST_SITES: usize = MOST_BAYS * MOST_STRANDS;
+
+// The energy of a bay with a number below the limit of strands, 0.0 where it is no strand.
 fn site_energy(
     z: Sizes,
     strand_glues: &[u32],
@@ -20,7 +26,7 @@ fn site_energy(
     t: usize,
 ) -> f64
     requires { ⌜ Readable (z .strands) (z .glues) (now «strand_glues») (now «delta_g») (now entropy) ⌝ }
-    requires { ⌜ Stocked z (now scaffold) (now logs) ⌝ }
+    requires { ⌜ ReadableBays z (now scaffold) (now logs) ⌝ }
     requires { ⌜ bay < length (now scaffold) ⌝ }
     ensures { λ r. ⌜ r ≡ siteEnergy z (now («strand_glues» .entry)) (now (scaffold .entry)) (now («delta_g» .entry)) (now (entropy .entry)) (now (logs .entry)) bay t ⌝ }
 {
@@ -30,7 +36,7 @@ fn site_energy(
     0.0
 }
 
-// Writes the energies of all bays in scan order to the front of a table, number t on bay k at place k · 64 + t.
+// Writes the energies of all bays in scan order to the front of a table, a row for each bay: number t is the row's place t.
 pub fn fill_sites(
     z: Sizes,
     strand_glues: &[u32],
@@ -41,14 +47,15 @@ pub fn fill_sites(
     sites: &mut [f64],
 )
     requires { ⌜ Readable (z .strands) (z .glues) (now «strand_glues») (now «delta_g») (now entropy) ⌝ }
-    requires { ⌜ Stocked z (now scaffold) (now logs) ⌝ }
-    requires { ⌜ z .rows * z .cols * 64 ≤ length (now sites) ⌝ }
-    ensures { λ _. ⌜ take (z .rows * z .cols * 64) (now (sites .exit)) ≡ siteTable z (now («strand_glues» .entry)) (now (scaffold .entry)) (now («delta_g» .entry)) (now (entropy .entry)) (now (logs .entry)) ⌝ }
+    requires { ⌜ ReadableBays z (now scaffold) (now logs) ⌝ }
+    requires { ⌜ z .rows * z .cols * mostStrands ≤ length (now sites) ⌝ }
+    ensures { λ _. let table = siteTable z (now («strand_glues» .entry)) (now (scaffold .entry)) (now («delta_g» .entry)) (now (entropy .entry)) (now (logs .entry)) in
+        ⌜ take (z .rows * z .cols * mostStrands) (now (sites .exit)) ≡ table ⌝ }
 {
-    let end = z.rows * z.cols * 64;
+    let end = z.rows * z.cols * MOST_STRANDS;
     let mut i = 0;
     while i < end {
-        let bay = bay_at(z.rows, z.cols, i / 64);
+        let bay = bay_at(z.rows, z.cols, i / MOST_STRANDS);
         sites[i] = site_energy(
             z,
             strand_glues,
@@ -57,7 +64,7 @@ pub fn fill_sites(
             entropy,
             logs,
             bay,
-            i % 64,
+            i % MOST_STRANDS,
         );
         i += 1;
     }

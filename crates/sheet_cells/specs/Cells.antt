@@ -3,7 +3,8 @@ use Prim.Native.Nat.{ℕ, zero, suc, _+_}
 use mathlib.Core.Bool.{Bool, cond, _&&_}
 use mathlib.Core.List.{List, [], _∷_, _++_}
 use lib.Dec.{eqb, ltb}
-use lib.ListN.{length, drop}
+use lib.ListN.{length}
+pub use Rattle.text_fronts.specs.Front.{front}
 use Rattle.units.specs.Refusals.{Verdict, refuseIf}
 use Rattle.sheet_fields.specs.Fields.{field, content, after}
 use Rattle.sheet_fields.specs.Runs.{past, goesOn}
@@ -48,7 +49,3 @@ allTiles (l ∷ ls) = l ++ allTiles ls
 unfoldable pub starts : ℕ → List (List ℕ) → List ℕ
 starts n [] = n ∷ []
 starts n (l ∷ ls) = n ∷ starts (n + length l) ls
-
--- a table that begins with other numbers and goes on as it was
-abbrev pub front : (new old : List ℕ) → List ℕ
-front new old = new ++ drop (length new) old

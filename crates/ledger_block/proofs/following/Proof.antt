@@ -4,15 +4,6 @@ use Rattle.ledger_block.proofs.Beside.{following-on, following-round}
 use Rattle.ledger_block.proofs.following.Statement.{statement}
 use Rattle.ledger_block.proofs.following.Tie as tie
 
-add-next : tie.Need-add-next
-add-next c = search needs
-
-next-requires : tie.Need-next-requires
-next-requires c κs = search needs
-
-next-requires-2 : tie.Need-next-requires-2
-next-requires-2 c κs = search needs
-
 returns : tie.Need-returns
 returns c =
     let a = c .before .before .args in
@@ -24,4 +15,4 @@ returns-2 c =
     following-round (a .set) (a .u) (c .before .before .next .result) (c .next2 .result) (c .before .before .next .ensures) (c .before .if1 .left) (c .next2 .ensures)
 
 pub following-spec : {M : Type 1} → statement M
-following-spec = tie.close (tie.spec add-next next-requires next-requires-2 returns returns-2)
+following-spec = tie.close (tie.spec (λ c. search needs) (λ c κs. search needs) (λ c. search needs) (λ c κs. search needs) returns returns-2)

@@ -5,6 +5,7 @@ use native.Mathlib.Omega.{arith}
 use lib.ListN.{length}
 use denote.Ref.{now}
 use borrow.Author.Needs.{needs}
+use Rattle.units.specs.Limits.{mostStrands}
 use Rattle.sets.specs.Set.{has}
 use Rattle.sets.proofs.Members.{length-le}
 use Rattle.ledger_row_choice.specs.Row.{strandsOf}
@@ -33,7 +34,7 @@ module _ (l : tie.At-loop Inv-loop μ-loop) where
   same-notes =
       notes-kept (l .loop .inv .1)
 
-  u-small : l .loop .u < 64
+  u-small : l .loop .u < mostStrands
   u-small =
       block-small (l .loop .inv .1)
 
@@ -42,14 +43,8 @@ module _ (l : tie.At-loop Inv-loop μ-loop) where
   room h =
       line-writable (l .loop .inv .1) h
 
-size-requires : tie.Need-size-requires Inv-loop μ-loop
-size-requires c κs = search needs
-
 cast-count : tie.Need-cast-count Inv-loop μ-loop
-cast-count c = omega (arith, c .size .ensures, length-le (has (c .before .before .before .before .args .bay .set)) 64)
-
-next-requires : tie.Need-next-requires Inv-loop μ-loop
-next-requires c κs = search needs
+cast-count c = omega (arith, c .size .ensures, length-le (has (c .before .before .before .before .args .bay .set)) mostStrands)
 
 loop-holds : tie.Need-loop-holds Inv-loop μ-loop
 loop-holds c =
@@ -110,9 +105,9 @@ put-bay-spec =
     (tie.spec
     Inv-loop
     μ-loop
-    size-requires
+    (λ c κs. search needs)
     cast-count
-    next-requires
+    (λ c κs. search needs)
     loop-holds
     cast-put-line
     put-line-requires

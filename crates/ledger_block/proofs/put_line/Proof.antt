@@ -10,6 +10,7 @@ use lib.ListN.{length, getD}
 use denote.Ref.{now}
 use borrow.Author.Needs.{needs, scaled-fits}
 use borrow.Author.Tests.{not-true, not-false}
+use Rattle.units.specs.Limits.{mostStrands}
 use Rattle.floats.specs.declared.Choice.{Choice}
 use Rattle.ledger_rows.specs.Blocks.{tab}
 use Rattle.ledger_row_choice.specs.declared.Own.{Own}
@@ -52,19 +53,13 @@ energies-next c = energies-room (c .before .before .loop .inv) (more c)
 notes-next : (c : tie.Then1 Inv-loop μ-loop) → c .before .before .loop .j < length (c .before .before .loop .notes)
 notes-next c = notes-room (c .before .before .loop .inv) (more c)
 
-strand-next : (c : tie.After-first Inv-loop μ-loop) → c .first .result < 64
+strand-next : (c : tie.After-first Inv-loop μ-loop) → c .first .result < mostStrands
 strand-next c = line-small (c .before .before .before .loop .inv) (more (c .before)) (c .first .ensures)
 
 loop-holds : tie.Need-loop-holds Inv-loop μ-loop
 loop-holds c =
     let s = c .before .before .before in
     line-starts (s .args .bay .set) (s .args .at) (rowsOf s) (now (s .args .energies)) (now (s .args .notes)) (s .pre .1 .energies-fit) (s .pre .1 .notes-fit)
-
-is-empty-requires : tie.Need-is-empty-requires Inv-loop μ-loop
-is-empty-requires c κs = search needs
-
-first-requires : tie.Need-first-requires Inv-loop μ-loop
-first-requires c κs = search needs
 
 cast-t : tie.Need-cast-t Inv-loop μ-loop
 cast-t c = omega (arith, strand-next c)
@@ -94,7 +89,7 @@ row-requires : tie.Need-row-requires Inv-loop μ-loop
 row-requires c κs =
     let f = c .before .before .before in
     let s = start (f .before .before .before) in
-    (subst (λ t. t < 64) (sym (ap (λ (o : Own). o .strand) (c .before .before .own-of .ensures))) (strand-next f), s .pre .0 .1, s .pre .1 .small, s .pre .1 .some-leave)
+    (subst (λ t. t < mostStrands) (sym (ap (λ (o : Own). o .strand) (c .before .before .own-of .ensures))) (strand-next f), s .pre .0 .1, s .pre .1 .small, s .pre .1 .some-leave)
 
 mul-energies : tie.Need-mul-energies Inv-loop μ-loop
 mul-energies c =
@@ -131,15 +126,12 @@ cast-notes c =
     let a = s .args in
     let p = l .loop .inv .count in
     let own = ownOf (a .bay) (now (a .here)) (now (a .side)) (a .u) (getD (strandsOf (a .bay .set)) p 0) in
-    let small : rowsOf s p .who < 64 =
+    let small : rowsOf s p .who < mostStrands =
     who-small own (now (a .major)) (part (a .from) (a .end) (now (a .energies))) (a .bay .leaving) (a .bay .width) (a .q) (s .pre .1 .some-leave) in
     omega (arith, ap (λ (r : Choice). r .who) (best-is (c .before)))
 
 slice-write-notes : tie.Need-slice-write-notes Inv-loop μ-loop
 slice-write-notes c = notes-next (c .before .before .before .before .before .before)
-
-rest-requires : tie.Need-rest-requires Inv-loop μ-loop
-rest-requires c κs = search needs
 
 add-j : tie.Need-add-j Inv-loop μ-loop
 add-j c =
@@ -173,8 +165,8 @@ put-line-spec =
     Inv-loop
     μ-loop
     loop-holds
-    is-empty-requires
-    first-requires
+    (λ c κs. search needs)
+    (λ c κs. search needs)
     cast-t
     own-of-requires
     mul-row
@@ -186,7 +178,7 @@ put-line-spec =
     slice-write-energies
     cast-notes
     slice-write-notes
-    rest-requires
+    (λ c κs. search needs)
     add-j
     loop-less
     loop-again

@@ -20,37 +20,10 @@ made : (window : ℕ) (sets : List ℕ) (k rows : ℕ) {leaves before count : �
     (bayOf window sets k (rows / length (strandsOf (leavingOf window sets k))))
 made window sets k rows l b c = rw (c, l, b)
 
-leaving-requires : tie.Need-leaving-requires
-leaving-requires c κs = search needs
-
-one-less-requires : tie.Need-one-less-requires
-one-less-requires c κs = search needs
-
-mul-t7 : tie.Need-mul-t7
-mul-t7 c = search needs
-
-shared-slice-read-t9 : tie.Need-shared-slice-read-t9
-shared-slice-read-t9 c = search needs
-
-mul-t10 : tie.Need-mul-t10
-mul-t10 c = search needs
-
-shared-slice-read-t12 : tie.Need-shared-slice-read-t12
-shared-slice-read-t12 c = search needs
-
-size-requires : tie.Need-size-requires
-size-requires c κs = search needs
-
-cast-t14 : tie.Need-cast-t14
-cast-t14 c = search needs
-
 div-t15 : tie.Need-div-t15
 div-t15 c =
     let s = c .before .before .before .before .before .before in
     subst (λ n. 0 < n) (sym (c .size .ensures ∙ ap (λ set. length (strandsOf set)) (c .before .before .before .before .leaving .ensures))) (s .pre .1)
-
-rem-t17 : tie.Need-rem-t17
-rem-t17 c = search needs
 
 returns : tie.Need-returns
 returns c =
@@ -61,14 +34,14 @@ pub bay-at-spec : {M : Type 1} → statement M
 bay-at-spec =
     tie.close
     (tie.spec
-    leaving-requires
-    one-less-requires
-    mul-t7
-    shared-slice-read-t9
-    mul-t10
-    shared-slice-read-t12
-    size-requires
-    cast-t14
+    (λ c κs. search needs)
+    (λ c κs. search needs)
+    (λ c. search needs)
+    (λ c. search needs)
+    (λ c. search needs)
+    (λ c. search needs)
+    (λ c κs. search needs)
+    (λ c. search needs)
     div-t15
-    rem-t17
+    (λ c. search needs)
     returns)

@@ -4,6 +4,7 @@ use Prim.Native.Nat.{_+_, _-_, _*_, _≤_, _<_}
 use native.Mathlib.Omega.{arith}
 use lib.ListN.{length}
 use denote.Ref.{now}
+use Rattle.units.specs.Limits.{mostStrands}
 use Rattle.ledger_row_choice.specs.Row.{strandsOf}
 use Rattle.ledger_block.specs.Block.{Writable}
 use Rattle.ledger_fill.proofs.Filling.{Filling, filling-starts, energies-whole, notes-whole, fill-comes, bay-in, here-long, bay-writable, previous-some, filling-turns, filling-ends}
@@ -30,7 +31,7 @@ module _ (l : tie.At-loop Inv-loop μ-loop) where
   same-notes =
       notes-whole (l .loop .inv)
 
-  bay-inside : l .loop .k < length (now (start l .args .sets)) → l .loop .k * 64 + 64 ≤ length (now (start l .args .bays))
+  bay-inside : l .loop .k < length (now (start l .args .sets)) → l .loop .k * mostStrands + mostStrands ≤ length (now (start l .args .bays))
   bay-inside h =
       bay-in (l .loop .inv) h
 
@@ -51,7 +52,7 @@ loop-holds c =
 bay-at-requires : tie.Need-bay-at-requires Inv-loop μ-loop
 bay-at-requires c κs =
     let l = c .before in (
-      (start l .pre .some-window, c .loop-test .taken),
+      (start l .pre .room .some-window, c .loop-test .taken),
       fill-comes (l .loop .inv) (c .loop-test .taken) .some-leave,
     )
 
@@ -63,12 +64,6 @@ add-past c = omega (arith, bay-inside (c .before .before) (c .before .loop-test 
 
 mul-put-bay : tie.Need-mul-put-bay Inv-loop μ-loop
 mul-put-bay c = omega (arith, bay-inside (c .before .before) (c .before .loop-test .taken), start (c .before .before) .good .1 .1 .0 .1)
-
-sub-put-bay : tie.Need-sub-put-bay Inv-loop μ-loop
-sub-put-bay c = omega arith
-
-part-put-bay-start : tie.Need-part-put-bay-start Inv-loop μ-loop
-part-put-bay-start c = omega arith
 
 part-put-bay-end : tie.Need-part-put-bay-end Inv-loop μ-loop
 part-put-bay-end c = bay-inside (c .before .before) (c .before .loop-test .taken)
@@ -139,8 +134,8 @@ fill-spec =
     mul-at
     add-past
     mul-put-bay
-    sub-put-bay
-    part-put-bay-start
+    (λ c. omega arith)
+    (λ c. omega arith)
     part-put-bay-end
     put-bay-requires
     rows-of-requires

@@ -9,12 +9,6 @@ use borrow.Author.Tests.{le-leb, lt-leb}
 use Rattle.ledger_fill.proofs.leaving.Statement.{statement}
 use Rattle.ledger_fill.proofs.leaving.Tie as tie
 
-mul-result : tie.Need-mul-result
-mul-result c = search needs
-
-shared-slice-read-result : tie.Need-shared-slice-read-result
-shared-slice-read-result c = search needs
-
 returns : tie.Need-returns
 returns c =
     let a = c .before .before .args in
@@ -26,4 +20,4 @@ returns-2 c =
     sym (ap (λ b. cond b (getD (now (a .sets)) (a .k - a .window) 0) 1) (lt-leb (a .window) (a .k) (c .if1 .left)))
 
 pub leaving-spec : {M : Type 1} → statement M
-leaving-spec = tie.close (tie.spec mul-result shared-slice-read-result returns returns-2)
+leaving-spec = tie.close (tie.spec (λ c. search needs) (λ c. search needs) returns returns-2)

@@ -8,12 +8,6 @@ use Rattle.ledger_row_choice.proofs.Reading.{any-default}
 use Rattle.ledger_row_choice.proofs.held.Statement.{statement}
 use Rattle.ledger_row_choice.proofs.held.Tie as tie
 
-mul-result : tie.Need-mul-result
-mul-result c = search needs
-
-shared-slice-read-result : tie.Need-shared-slice-read-result
-shared-slice-read-result c = search needs
-
 returns : tie.Need-returns
 returns c =
     let a = c .before .before .args in
@@ -25,4 +19,4 @@ returns-2 c =
     sym (List·getD-eq-default (now (a .before)) (ofBits binary64 0) (c .if1 .left))
 
 pub held-spec : {M : Type 1} → statement M
-held-spec = tie.close (tie.spec mul-result shared-slice-read-result returns returns-2)
+held-spec = tie.close (tie.spec (λ c. search needs) (λ c. search needs) returns returns-2)

@@ -5,15 +5,6 @@ use Rattle.energy_bays.specs.ScanSum.{withBond}
 use Rattle.ledger_row_choice.proofs.own_adds.Statement.{statement}
 use Rattle.ledger_row_choice.proofs.own_adds.Tie as tie
 
-bond-at-requires : tie.Need-bond-at-requires
-bond-at-requires c κs = search needs
-
-with-bond-requires : tie.Need-with-bond-requires
-with-bond-requires c κs = search needs
-
-with-bond-requires-2 : tie.Need-with-bond-requires-2
-with-bond-requires-2 c κs = search needs
-
 returns : tie.Need-returns
 returns c =
     let own = c .before .before .before .args .own in
@@ -21,4 +12,4 @@ returns c =
     ∙ ap (withBond (own .beside) (own .side)) (c .before .with-bond .ensures ∙ ap (λ bond. withBond (own .below) bond (own .bay)) (c .before .before .bond-at .ensures))
 
 pub own-adds-spec : {M : Type 1} → statement M
-own-adds-spec = tie.close (tie.spec bond-at-requires with-bond-requires with-bond-requires-2 returns)
+own-adds-spec = tie.close (tie.spec (λ c κs. search needs) (λ c κs. search needs) (λ c κs. search needs) returns)

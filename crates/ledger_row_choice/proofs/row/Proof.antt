@@ -8,6 +8,7 @@ use lib.Dec.{eqb}
 use lib.ListN.{length}
 use borrow.Author.Needs.{needs}
 use borrow.Author.Tests.{not-true, not-false}
+use Rattle.units.specs.Limits.{mostStrands}
 use Rattle.sets.specs.Set.{has, nextOf}
 use Rattle.ledger_row_choice.specs.Row.{strandsOf}
 use Rattle.ledger_row_choice.proofs.Leaving.{Leaving, first, starts, strand-small, turns, fewer, place-small, ends}
@@ -21,22 +22,16 @@ abbrev μ-loop : tie.MeasureT-loop
 μ-loop before q width leaving major own choice₀ left₀ i₀ choice left i = length (strandsOf left)
 
 -- the first strand that leaves
-first-small : (s : tie.Start Inv-loop μ-loop) (r : ℕ) → r ≡ nextOf (has (s .args .leaving)) 0 64 → r < 64
+first-small : (s : tie.Start Inv-loop μ-loop) (r : ℕ) → r ≡ nextOf (has (s .args .leaving)) 0 mostStrands → r < mostStrands
 first-small s r e =
     let a = s .args in
     omega (arith, e, first (a .own) (now (a .major)) (now (a .before)) (a .leaving) (a .width) (a .q) (s .pre .3) .below)
-
-first-requires : tie.Need-first-requires Inv-loop μ-loop
-first-requires c κs = search needs
 
 cast-candidate : tie.Need-cast-candidate Inv-loop μ-loop
 cast-candidate c = omega (arith, first-small (c .before .before) (c .first .result) (c .first .ensures))
 
 candidate-requires : tie.Need-candidate-requires Inv-loop μ-loop
 candidate-requires c κs = (c .before .before .pre .0, first-small (c .before .before) (c .first .result) (c .first .ensures))
-
-rest-requires : tie.Need-rest-requires Inv-loop μ-loop
-rest-requires c κs = search needs
 
 add-i : tie.Need-add-i Inv-loop μ-loop
 add-i c = omega (arith, c .before .before .before .before .pre)
@@ -48,15 +43,9 @@ loop-holds c =
     starts (a .own) (now (a .major)) (now (a .before)) (a .leaving) (a .width) (a .q) (s .pre .3)
     (c .before .before .first .ensures) (c .rest .ensures) (c .before .candidate .ensures)
 
-is-empty-requires : tie.Need-is-empty-requires Inv-loop μ-loop
-is-empty-requires c κs = search needs
-
 -- a turn is made while strands are left
 more : (c : tie.Then1 Inv-loop μ-loop) → eqb (length (strandsOf (c .before .before .loop .left))) 0 ≡ false
 more c = sym (c .before .is-empty .ensures) ∙ not-true _ (c .if1 .taken)
-
-first-requires-2 : tie.Need-first-requires-2 Inv-loop μ-loop
-first-requires-2 c κs = search needs
 
 cast-s : tie.Need-cast-s Inv-loop μ-loop
 cast-s c =
@@ -68,12 +57,6 @@ candidate-requires-2 c κs =
     let turn = c .before in
     let l = turn .before .before in
     (l .before .before .before .before .before .pre .0, strand-small (l .loop .inv) (more turn) (c .first2 .ensures))
-
-lower-requires : tie.Need-lower-requires Inv-loop μ-loop
-lower-requires c κs = search needs
-
-rest-requires-2 : tie.Need-rest-requires-2 Inv-loop μ-loop
-rest-requires-2 c κs = search needs
 
 add-i-2 : tie.Need-add-i-2 Inv-loop μ-loop
 add-i-2 c =
@@ -102,18 +85,18 @@ row-spec =
     (tie.spec
     Inv-loop
     μ-loop
-    first-requires
+    (λ c κs. search needs)
     cast-candidate
     candidate-requires
-    rest-requires
+    (λ c κs. search needs)
     add-i
     loop-holds
-    is-empty-requires
-    first-requires-2
+    (λ c κs. search needs)
+    (λ c κs. search needs)
     cast-s
     candidate-requires-2
-    lower-requires
-    rest-requires-2
+    (λ c κs. search needs)
+    (λ c κs. search needs)
     add-i-2
     loop-less
     loop-again

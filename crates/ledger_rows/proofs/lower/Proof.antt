@@ -6,16 +6,10 @@ use Rattle.ledger_rows.proofs.Choosing.{takes-bad, takes-better}
 use Rattle.ledger_rows.proofs.lower.Statement.{statement}
 use Rattle.ledger_rows.proofs.lower.Tie as tie
 
-is-bad-requires : tie.Need-is-bad-requires
-is-bad-requires c κs = search needs
-
 returns : tie.Need-returns
 returns c =
     let a = c .before .before .args in
     sym (takes-bad (a .old) (a .new) (not-true _ (sym (c .before .is-bad .ensures) ∙ c .if1 .taken)))
-
-better-choice-requires : tie.Need-better-choice-requires
-better-choice-requires c κs = search needs
 
 returns-2 : tie.Need-returns-2
 returns-2 c =
@@ -23,4 +17,4 @@ returns-2 c =
     c .better-choice .ensures ∙ takes-better (a .old) (a .new) (not-false _ (sym (c .before .before .is-bad .ensures) ∙ c .before .if1 .left))
 
 pub lower-spec : {M : Type 1} → statement M
-lower-spec = tie.close (tie.spec is-bad-requires returns better-choice-requires returns-2)
+lower-spec = tie.close (tie.spec (λ c κs. search needs) returns (λ c κs. search needs) returns-2)

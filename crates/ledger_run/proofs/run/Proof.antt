@@ -13,7 +13,7 @@ use Rattle.floats.specs.declared.Choice.{Choice}
 use Rattle.ledger_rows.specs.Scan.{Scan}
 use Rattle.ledger_rows.specs.Trace.{answerRow, answer}
 use Rattle.ledger_fill.specs.Handed.{runScan}
-use Rattle.ledger_run.proofs.Running.{Ran, last-in-order, last-energies, last-notes, filled-long, last-some, answer-is, cleared-energies, kept-energies, noted-long, traceable, answer-place, answer-row-in, traced-order, kept-notes, cleared-notes, kept-order}
+use Rattle.ledger_run.proofs.Running.{OnceFilled, last-in-order, last-energies, last-notes, filled-long, last-some, answer-is, noted-long, traceable, answer-place, answer-row-in, traced-order, ran-bad, ran-good}
 use Rattle.ledger_run.proofs.run.Statement.{statement}
 use Rattle.ledger_run.proofs.run.Tie as tie
 
@@ -34,9 +34,9 @@ abbrev noted : tie.After-fill → List ℕ
 noted f = f .fill .last .1 .1 .1 .1 .1 .1 .0
 
 ran : (f : tie.After-fill)
-    → Ran (start f .args .window) (now (start f .args .sets)) (now (start f .args .bays)) (now (start f .args .major)) (now (start f .args .side)) (now (start f .args .energies))
+    → OnceFilled (start f .args .window) (now (start f .args .sets)) (now (start f .args .bays)) (now (start f .args .major)) (now (start f .args .side)) (now (start f .args .energies))
     (now (start f .args .notes)) (f .fill .result) (filled f) (noted f)
-ran f = record { some = start f .pre .1 .0; fit = start f .pre .0; last-is = f .fill .ensures .0; energies-are = f .fill .ensures .1 .0; notes-are = f .fill .ensures .1 .1 }
+ran f = record { some = start f .pre .1 .0; fit = start f .pre .0; done = f .fill .ensures }
 
 in-filled : (f : tie.After-fill) → f .fill .result .end ≤ length (filled f)
 in-filled f = omega (arith, last-energies (ran f), filled-long (ran f))
@@ -60,9 +60,6 @@ bad c = subst (λ x. lt (inf true) x ≡ false) (is-answer (c .before .before)) 
 good : (c : tie.Else1) → lt (inf true) (answer (scan (before (c .before .before))) (bays (before (c .before .before)))) ≡ true
 good c = subst (λ x. lt (inf true) x ≡ true) (is-answer (c .before .before)) (not-false _ (sym (c .before .is-bad .ensures) ∙ c .if1 .left))
 
-fill-requires : tie.Need-fill-requires
-fill-requires c κs = search needs
-
 mul-least-row : tie.Need-mul-least-row
 mul-least-row c =
     let f = c .before .before .before .before in
@@ -80,32 +77,18 @@ part-least-row-end c = in-filled (c .before .before .before .before .before)
 least-row-requires : tie.Need-least-row-requires
 least-row-requires c κs = last-some (ran (c .before .before .before .before .before .before))
 
-is-bad-requires : tie.Need-is-bad-requires
-is-bad-requires c κs = search needs
-
 clear-energies-requires : tie.Need-clear-energies-requires
 clear-energies-requires c κs = in-filled (c .before .before .before .before .before .before .before .before .before .before)
 
 clear-notes-requires : tie.Need-clear-notes-requires
 clear-notes-requires c κs = in-noted (c .before .before .before .before .before .before .before .before .before .before .before .before .before .before)
 
-same-length : tie.Need-same-length
-same-length c = search needs
-
-same-length-2 : tie.Need-same-length-2
-same-length-2 c = search needs
-
 returns : tie.Need-returns
 returns c =
     let best = c .before .before .before .before .before .before .before .before .before .before in
     let f = before best in
-    let no = bad (c .before .before .before .before .before .before .before .before) in (
-      is-answer best,
-      (
-        kept-order (scan f) (bays f) (now (start f .args .order)) no,
-        (cleared-energies (ran f) _ (c .before .before .before .before .before .before .clear-energies .ensures) no, cleared-notes (ran f) _ (c .before .before .clear-notes .ensures) no),
-      ),
-    )
+    let no = bad (c .before .before .before .before .before .before .before .before) in
+    ran-bad (ran f) (now (start f .args .order)) (is-answer best) no (c .before .before .before .before .before .before .clear-energies .ensures) (c .before .before .clear-notes .ensures)
 
 sub-t18 : tie.Need-sub-t18
 sub-t18 c = last-in-order (ran (c .before .before .before .before .before .before .before .before .before))
@@ -114,48 +97,35 @@ trace-requires : tie.Need-trace-requires
 trace-requires c κs =
     let best = c .before .before .before .before in
     let f = before best in
-    (traceable (ran f), (answer-place (ran f) _ (best-is best), answer-row-in (ran f) _ (best-is best), start f .pre .1 .1))
-
-same-length-3 : tie.Need-same-length-3
-same-length-3 c = search needs
-
-same-length-4 : tie.Need-same-length-4
-same-length-4 c = search needs
-
-same-length-5 : tie.Need-same-length-5
-same-length-5 c = search needs
+    (traceable (ran f), (start f .pre .1 .1, (answer-place (ran f) _ (best-is best), answer-row-in (ran f) _ (best-is best))))
 
 returns-2 : tie.Need-returns-2
 returns-2 c =
     let best = c .before .before .before .before .before .before .before in
     let f = before best in
-    let ok = good (c .before .before .before .before .before) in (
-      is-answer best,
-      (
-        traced-order (ran f) _ (best-is best) (now (start f .args .order)) _ (c .before .before .trace .ensures) ok,
-        (kept-energies (ran f) ok, kept-notes (ran f) ok),
-      ),
-    )
+    let ok = good (c .before .before .before .before .before) in
+    let order = now (start f .args .order) in
+    ran-good (ran f) order (is-answer best) ok (traced-order (ran f) _ (best-is best) order _ (c .before .before .trace .ensures) ok)
 
 pub run-spec : {M : Type 1} → statement M
 run-spec =
     tie.close
     (tie.spec
-    fill-requires
+    (λ c κs. search needs)
     mul-least-row
     sub-least-row
     part-least-row-start
     part-least-row-end
     least-row-requires
-    is-bad-requires
+    (λ c κs. search needs)
     clear-energies-requires
     clear-notes-requires
-    same-length
-    same-length-2
+    (λ c. search needs)
+    (λ c. search needs)
     returns
     sub-t18
     trace-requires
-    same-length-3
-    same-length-4
-    same-length-5
+    (λ c. search needs)
+    (λ c. search needs)
+    (λ c. search needs)
     returns-2)

@@ -11,9 +11,6 @@ Inv-loop set p t₀ left₀ t left = Stepping set p t left
 abbrev μ-loop : tie.MeasureT-loop
 μ-loop set p t₀ left₀ t left = left
 
-next-requires : tie.Need-next-requires Inv-loop μ-loop
-next-requires c κs = search needs
-
 loop-holds : tie.Need-loop-holds Inv-loop μ-loop
 loop-holds c = stepping-starts (c .before .args .set) (c .before .args .p) (c .before .pre) (c .next .result) (c .next .ensures)
 
@@ -22,15 +19,6 @@ add-next c =
     let l = c .before in
     let s = l .before .before in
     omega (arith, stepping-small (s .args .set) (s .args .p) (s .pre) (l .loop .t) (l .loop .left) (l .loop .inv))
-
-next-requires-2 : tie.Need-next-requires-2 Inv-loop μ-loop
-next-requires-2 c κs = search needs
-
-sub-left : tie.Need-sub-left Inv-loop μ-loop
-sub-left c = omega arith
-
-loop-less : tie.Need-loop-less Inv-loop μ-loop
-loop-less c = omega arith
 
 loop-again : tie.Need-loop-again Inv-loop μ-loop
 loop-again c =
@@ -45,4 +33,4 @@ returns c =
     stepping-ends (s .args .set) (s .args .p) (s .pre) (l .loop .t) (l .loop .left) (l .loop .inv) (c .loop-test .left)
 
 pub member-spec : {M : Type 1} → statement M
-member-spec = tie.close (tie.spec Inv-loop μ-loop next-requires loop-holds add-next next-requires-2 sub-left loop-less loop-again returns)
+member-spec = tie.close (tie.spec Inv-loop μ-loop (λ c κs. search needs) loop-holds add-next (λ c κs. search needs) (λ c. omega arith) (λ c. omega arith) loop-again returns)

@@ -5,6 +5,7 @@ use native.Mathlib.Omega.{arith}
 use lib.ListN.{length, getD}
 use denote.Ref.{now}
 use borrow.Author.Needs.{needs}
+use Rattle.units.specs.Limits.{mostRows, mostStrands}
 use Rattle.sets.specs.Set.{has, members}
 use Rattle.ledger_rows.specs.Scan.{Scan}
 use Rattle.ledger_rows.specs.Blocks.{leavers, need, size}
@@ -18,7 +19,7 @@ use Rattle.ledger_way_back.proofs.step_back.Tie as tie
 
 -- the row from which the step begins
 on : (s : tie.Start) → OnRow (s .args .window) (now (s .args .sets)) (now (s .args .notes)) (s .args .k) (s .args .at)
-on s = record { tables = s .pre .0; bay = s .pre .1 .0; place = s .pre .1 .1; inside = s .pre .1 .2 }
+on s = record { tables = s .pre .0; bay = s .pre .1 .0; place = s .pre .1 .1 .0; inside = s .pre .1 .1 .1 }
 
 abbrev scan : tie.Start → Scan
 scan s = setScan (s .args .window) (now (s .args .sets))
@@ -48,29 +49,17 @@ place c =
     let s = start (sized c) in
     let at = s .args .at in
     c .position .ensures
-    ∙ ap (λ n. length (members (has (c .before .before .before .leaving .result)) n)) (c .before .wide .ensures)
+    ∙ ap (λ n. length (members (has (c .before .before .before .leaving .result)) n)) (c .before .noted-strand .ensures)
     ∙ ap (λ l. length (members (has l) (getD (now (s .args .notes)) (at .end - at .rows + at .row) 0))) (c .before .before .before .leaving .ensures)
     ∙ position-is (on s)
 
 -- the product of the position and the width is small
-product : (c : tie.After-position) → c .position .result * (start (sized c) .args .at .rows / sized c .size .result) ≤ 67108864
-product c = subst (λ w. c .position .result * w ≤ 67108864) (sym (width (sized c))) (product-few (on (start (sized c))) (c .position .result) (place c))
+product : (c : tie.After-position) → c .position .result * (start (sized c) .args .at .rows / sized c .size .result) ≤ mostRows * mostStrands
+product c = subst (λ w. c .position .result * w ≤ mostRows * mostStrands) (sym (width (sized c))) (product-few (on (start (sized c))) (c .position .result) (place c))
 
 -- how many leave
 leaves : (c : tie.After-size2) → c .size2 .result ≡ length (strandsOf (leavingAt (start (sized (c .before .before)))))
 leaves c = c .size2 .ensures ∙ ap (λ l. length (strandsOf l)) (c .before .before .before .before .before .leaving .ensures)
-
-mul-set : tie.Need-mul-set
-mul-set c = search needs
-
-shared-slice-read-set : tie.Need-shared-slice-read-set
-shared-slice-read-set c = search needs
-
-size-requires : tie.Need-size-requires
-size-requires c κs = search needs
-
-cast-count : tie.Need-cast-count
-cast-count c = search needs
 
 div-width : tie.Need-div-width
 div-width c = count-pos (c .before)
@@ -83,20 +72,8 @@ add-place c =
     let s = start (c .before .before .before) in
     omega (arith, place-in (on s), s .good .1 .1 .0 .0)
 
-leaving-requires : tie.Need-leaving-requires
-leaving-requires c κs = search needs
-
-shared-slice-read-wide : tie.Need-shared-slice-read-wide
-shared-slice-read-wide c = place-in (on (start (c .before .before .before .before .before)))
-
-wide-requires : tie.Need-wide-requires
-wide-requires c κs = search needs
-
-position-requires : tie.Need-position-requires
-position-requires c κs = search needs
-
-cast-position : tie.Need-cast-position
-cast-position c = search needs
+shared-slice-read-noted-strand : tie.Need-shared-slice-read-noted-strand
+shared-slice-read-noted-strand c = place-in (on (start (c .before .before .before .before .before)))
 
 mul-t13 : tie.Need-mul-t13
 mul-t13 c = omega (arith, product c)
@@ -109,17 +86,11 @@ add-t21 c =
     let n = sized (c .before) in
     omega (arith, product (c .before), row-few (on (start n)) (n .size .result))
 
-size-requires-2 : tie.Need-size-requires-2
-size-requires-2 c κs = search needs
-
-cast-t22 : tie.Need-cast-t22
-cast-t22 c = search needs
-
 mul-t23 : tie.Need-mul-t23
 mul-t23 c =
     let n = sized (c .before .before) in
-    let few : c .size2 .result * (start n .args .at .rows / n .size .result) ≤ 67108864 =
-    subst (λ w. c .size2 .result * w ≤ 67108864) (sym (width n)) (leaves-few (on (start n)) (c .size2 .result) (leaves c)) in
+    let few : c .size2 .result * (start n .args .at .rows / n .size .result) ≤ mostRows * mostStrands =
+    subst (λ w. c .size2 .result * w ≤ mostRows * mostStrands) (sym (width n)) (leaves-few (on (start n)) (c .size2 .result) (leaves c)) in
     omega arith
 
 returns : tie.Need-returns
@@ -133,22 +104,22 @@ pub step-back-spec : {M : Type 1} → statement M
 step-back-spec =
     tie.close
     (tie.spec
-    mul-set
-    shared-slice-read-set
-    size-requires
-    cast-count
+    (λ c. search needs)
+    (λ c. search needs)
+    (λ c κs. search needs)
+    (λ c. search needs)
     div-width
     sub-from
     add-place
-    leaving-requires
-    shared-slice-read-wide
-    wide-requires
-    position-requires
-    cast-position
+    (λ c κs. search needs)
+    shared-slice-read-noted-strand
+    (λ c κs. search needs)
+    (λ c κs. search needs)
+    (λ c. search needs)
     mul-t13
     div-t20
     add-t21
-    size-requires-2
-    cast-t22
+    (λ c κs. search needs)
+    (λ c. search needs)
     mul-t23
     returns)

@@ -9,21 +9,6 @@ use Rattle.ledger_row_choice.specs.Row.{strandsOf}
 use Rattle.ledger_way_back.proofs.strand_at.Statement.{statement}
 use Rattle.ledger_way_back.proofs.strand_at.Tie as tie
 
-mul-set : tie.Need-mul-set
-mul-set c = search needs
-
-shared-slice-read-set : tie.Need-shared-slice-read-set
-shared-slice-read-set c = search needs
-
-size-requires : tie.Need-size-requires
-size-requires c κs = search needs
-
-cast-member : tie.Need-cast-member
-cast-member c = search needs
-
-rem-member : tie.Need-rem-member
-rem-member c = search needs
-
 member-requires : tie.Need-member-requires
 member-requires c κs =
     let s = c .before .before .before in
@@ -36,4 +21,4 @@ returns c =
     c .member .ensures ∙ ap (λ m. getD (strandsOf (getD (now (s .args .sets)) (s .args .k) 0)) (s .args .i % m) 0) (c .before .size .ensures)
 
 pub strand-at-spec : {M : Type 1} → statement M
-strand-at-spec = tie.close (tie.spec mul-set shared-slice-read-set size-requires cast-member rem-member member-requires returns)
+strand-at-spec = tie.close (tie.spec (λ c. search needs) (λ c. search needs) (λ c κs. search needs) (λ c. search needs) (λ c. search needs) member-requires returns)

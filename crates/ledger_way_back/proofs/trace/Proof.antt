@@ -38,7 +38,7 @@ bay-in c =
 loop-holds : tie.Need-loop-holds Inv-loop μ-loop
 loop-holds c =
     let s = c .before .before .before in
-    tracking-starts (s .args .window) (now (s .args .sets)) (now (s .args .notes)) (s .args .last) (now (s .args .order)) (s .pre .1 .0) (s .pre .1 .1) (s .pre .1 .2)
+    tracking-starts (s .args .window) (now (s .args .sets)) (now (s .args .notes)) (s .args .last) (now (s .args .order)) (s .pre .1 .1 .0) (s .pre .1 .1 .1) (s .pre .1 .0)
 
 sub-k : tie.Need-sub-k Inv-loop μ-loop
 sub-k c = omega (arith, c .loop-test .taken)
@@ -49,13 +49,13 @@ strand-at-requires c κs = (bay-in c, start (c .before) .pre .0 .filled (c .befo
 mul-order : tie.Need-mul-order Inv-loop μ-loop
 mul-order c =
     let s = start (c .before .before) in
-    scaled-fits (c .before .before .loop .k - 1) (length (now (s .args .order))) 4 (omega (arith, bay-in (c .before), s .pre .1 .2)) (s .good .1 .1 .1 .1 .0 .1)
+    scaled-fits (c .before .before .loop .k - 1) (length (now (s .args .order))) 4 (omega (arith, bay-in (c .before), s .pre .1 .0)) (s .good .1 .1 .1 .1 .0 .1)
 
 slice-write-order : tie.Need-slice-write-order Inv-loop μ-loop
 slice-write-order c = omega (arith, bay-in (c .before), c .before .before .loop .inv .long)
 
 step-back-requires : tie.Need-step-back-requires Inv-loop μ-loop
-step-back-requires c κs = (start (c .before .before) .pre .0, (bay-in (c .before), tracked (c .before) .place, tracked (c .before) .inside))
+step-back-requires c κs = (start (c .before .before) .pre .0, (bay-in (c .before), (tracked (c .before) .place, tracked (c .before) .inside)))
 
 loop-less : tie.Need-loop-less Inv-loop μ-loop
 loop-less c = omega (arith, c .before .before .loop-test .taken)
@@ -68,7 +68,7 @@ loop-again c =
     (c .before .strand-at .result) (c .step-back .result) (c .before .strand-at .ensures) (c .step-back .ensures)
 
 same-length : tie.Need-same-length Inv-loop μ-loop
-same-length c = omega (arith, c .before .loop .inv .long, start (c .before) .pre .1 .2)
+same-length c = omega (arith, c .before .loop .inv .long, start (c .before) .pre .1 .0)
 
 returns : tie.Need-returns Inv-loop μ-loop
 returns c =

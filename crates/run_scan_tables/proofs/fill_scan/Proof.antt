@@ -57,12 +57,6 @@ mul-scan-2 c =
 slice-write-scan : tie.Need-slice-write-scan Inv-loop μ-loop
 slice-write-scan c = room (c .before)
 
-add-k : tie.Need-add-k Inv-loop μ-loop
-add-k c = omega arith
-
-loop-less : tie.Need-loop-less Inv-loop μ-loop
-loop-less c = omega arith
-
 loop-again : tie.Need-loop-again Inv-loop μ-loop
 loop-again c =
     let turn = c .before .before in
@@ -99,8 +93,8 @@ fill-scan-spec =
     shared-slice-read-scan
     mul-scan-2
     slice-write-scan
-    add-k
-    loop-less
+    (λ c. omega arith)
+    (λ c. omega arith)
     loop-again
     same-length
     returns)

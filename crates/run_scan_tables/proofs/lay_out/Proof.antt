@@ -49,12 +49,6 @@ mul-layout-2 c =
 slice-write-layout : tie.Need-slice-write-layout Inv-loop μ-loop
 slice-write-layout c = c .before .before .loop-test .taken
 
-add-bay : tie.Need-add-bay Inv-loop μ-loop
-add-bay c = omega arith
-
-loop-less : tie.Need-loop-less Inv-loop μ-loop
-loop-less c = omega arith
-
 loop-again : tie.Need-loop-again Inv-loop μ-loop
 loop-again c =
     let turn = c .before .before in
@@ -89,8 +83,8 @@ lay-out-spec =
     shared-slice-read-layout
     mul-layout-2
     slice-write-layout
-    add-bay
-    loop-less
+    (λ c. omega arith)
+    (λ c. omega arith)
     loop-again
     same-length
     returns)

@@ -4,9 +4,6 @@ use borrow.Author.Needs.{needs}
 use Rattle.run_scan_tables.proofs.window.Statement.{statement}
 use Rattle.run_scan_tables.proofs.window.Tie as tie
 
-by-rows-requires : tie.Need-by-rows-requires
-by-rows-requires c κs = search needs
-
 returns : tie.Need-returns
 returns c = rw (sym (c .before .by-rows .ensures) ∙ c .if1 .taken)
 
@@ -14,4 +11,4 @@ returns-2 : tie.Need-returns-2
 returns-2 c = rw (sym (c .before .by-rows .ensures) ∙ c .if1 .left)
 
 pub window-spec : {M : Type 1} → statement M
-window-spec = tie.close (tie.spec by-rows-requires returns returns-2)
+window-spec = tie.close (tie.spec (λ c κs. search needs) returns returns-2)

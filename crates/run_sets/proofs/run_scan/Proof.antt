@@ -14,7 +14,7 @@ use Rattle.ledger_fill.specs.Handed.{runScan, capped}
 use Rattle.bay_scan_order.specs.Scan.{byRows, window}
 use Rattle.run_tables.specs.Tables.{bondTable, siteTable}
 use Rattle.run_room.specs.Room.{roomVerdict}
-use Rattle.run_sets.proofs.Finishing.{stop, finish, need-of, room-by-cap, some-side, roomy}
+use Rattle.run_sets.proofs.Finishing.{stop, finish, need-of, room-by-cap, some-window, roomy}
 use Rattle.run_sets.proofs.run_scan.Statement.{statement}
 use Rattle.run_sets.proofs.run_scan.Tie as tie
 
@@ -45,18 +45,9 @@ room-is c =
     (needed .need .ensures ∙ ap capped (need-of (a .z .rows) (a .z .cols) (w .window .result) (now (a .scan)) (sites s) (major s) (side s) (w .window .ensures) (s .pre .1 .1 .1 .scanned)))
     (c .check-room .ensures)
 
-window-requires : tie.Need-window-requires
-window-requires c κs = search needs
-
 need-requires : tie.Need-need-requires
 need-requires c κs =
-    let s = c .before .before .before .before .before .before .before .before .before .before in (subst (λ (v : ℕ). 0 < v) (sym (c .window .ensures)) (some-side (s .pre .1 .1 .1)), s .pre .1 .1 .0)
-
-check-room-requires : tie.Need-check-room-requires
-check-room-requires c κs = search needs
-
-enum-known-r : tie.Need-enum-known-r
-enum-known-r c = search needs
+    let s = c .before .before .before .before .before .before .before .before .before .before in (subst (λ (v : ℕ). 0 < v) (sym (c .window .ensures)) (some-window (s .pre .1 .1 .1)), s .pre .1 .1 .0)
 
 returns : tie.Need-returns
 returns c =
@@ -64,9 +55,6 @@ returns c =
     let s = room .before .before .before .before .before .before .before .before .before .before .before .before in
     let a = s .args in
     stop (roomVerdict (count s) (length (now (a .energies))) (length (now (a .notes)))) (scanned s) (a .z .rows) (a .z .cols) (a .z .kelvin) (now (a .layout)) (now (a .energies)) (now (a .notes)) (room-is room) (c .before .r .given .1)
-
-enum-told : tie.Need-enum-told
-enum-told c = search needs
 
 run-system-requires : tie.Need-run-system-requires
 run-system-requires c κs =
@@ -76,18 +64,6 @@ run-system-requires c κs =
     let a = s .args in
     let on = s .pre .1 .1 .1 in
     (s .pre .0, (s .pre .1 .0, (roomy (a .z .rows) (a .z .cols) (now (a .scan)) (sites s) (major s) (side s) (length (now (a .energies))) (length (now (a .notes))) (length (now (a .layout))) on (s .pre .1 .1 .0) (room-is room) (told .enum-told .given .1), on)))
-
-answered-requires : tie.Need-answered-requires
-answered-requires c κs = search needs
-
-same-length : tie.Need-same-length
-same-length c = search needs
-
-same-length-2 : tie.Need-same-length-2
-same-length-2 c = search needs
-
-same-length-3 : tie.Need-same-length-3
-same-length-3 c = search needs
 
 returns-2 : tie.Need-returns-2
 returns-2 c =
@@ -102,15 +78,15 @@ pub run-scan-spec : {M : Type 1} → statement M
 run-scan-spec =
     tie.close
     (tie.spec
-    window-requires
+    (λ c κs. search needs)
     need-requires
-    check-room-requires
-    enum-known-r
+    (λ c κs. search needs)
+    (λ c. search needs)
     returns
-    enum-told
+    (λ c. search needs)
     run-system-requires
-    answered-requires
-    same-length
-    same-length-2
-    same-length-3
+    (λ c κs. search needs)
+    (λ c. search needs)
+    (λ c. search needs)
+    (λ c. search needs)
     returns-2)

@@ -34,12 +34,6 @@ mul-energies c =
 slice-write-energies : tie.Need-slice-write-energies Inv-loop μ-loop
 slice-write-energies c = omega (arith, inside c, same (c .before))
 
-add-i : tie.Need-add-i Inv-loop μ-loop
-add-i c = omega arith
-
-loop-less : tie.Need-loop-less Inv-loop μ-loop
-loop-less c = omega arith
-
 loop-again : tie.Need-loop-again Inv-loop μ-loop
 loop-again c =
     let s = c .before .before in
@@ -63,8 +57,8 @@ clear-energies-spec =
     loop-holds
     mul-energies
     slice-write-energies
-    add-i
-    loop-less
+    (λ c. omega arith)
+    (λ c. omega arith)
     loop-again
     same-length
     returns)

@@ -27,12 +27,6 @@ loop-holds c = (omega arith, clearing-starts 0 (now (c .args .notes)))
 slice-write-notes : tie.Need-slice-write-notes Inv-loop μ-loop
 slice-write-notes c = omega (arith, inside c, same (c .before))
 
-add-i : tie.Need-add-i Inv-loop μ-loop
-add-i c = omega arith
-
-loop-less : tie.Need-loop-less Inv-loop μ-loop
-loop-less c = omega arith
-
 loop-again : tie.Need-loop-again Inv-loop μ-loop
 loop-again c =
     let s = c .before .before in
@@ -55,8 +49,8 @@ clear-notes-spec =
     μ-loop
     loop-holds
     slice-write-notes
-    add-i
-    loop-less
+    (λ c. omega arith)
+    (λ c. omega arith)
     loop-again
     same-length
     returns)

@@ -6,17 +6,12 @@ use lib.ListN.{length}
 use lib.Seq.{length-take-le}
 use denote.Ref.{now}
 use borrow.Author.Needs.{needs}
+use Rattle.units.specs.Limits.{mostStrands}
 use Rattle.run_system.proofs.system.run_fronts.Statement.{statement}
 use Rattle.run_system.proofs.system.run_fronts.Tie as tie
 
-mul-count : tie.Need-mul-count
-mul-count c = search needs
-
 slice-aggregate-run-over : tie.Need-slice-aggregate-run-over
-slice-aggregate-run-over c = let s = c .before .before .before .before .before .before .before in sym (length-take-le (length (now (s .args .scan)) * 64) (now (s .args .sites)) (s .pre .1 .1 .1))
-
-slice-relend-prefix-run-over : tie.Need-slice-relend-prefix-run-over
-slice-relend-prefix-run-over c = search needs
+slice-aggregate-run-over c = let s = c .before .before .before .before .before .before .before in sym (length-take-le (length (now (s .args .scan)) * mostStrands) (now (s .args .sites)) (s .pre .1 .1 .1))
 
 slice-aggregate-run-over-2 : tie.Need-slice-aggregate-run-over-2
 slice-aggregate-run-over-2 c = let s = c .before .before .before .before .before .before .before .before in sym (length-take-le (length (now (s .args .scan))) (now (s .args .order)) (s .pre .1 .1 .0))
@@ -24,45 +19,22 @@ slice-aggregate-run-over-2 c = let s = c .before .before .before .before .before
 run-over-requires : tie.Need-run-over-requires
 run-over-requires c κs =
     let s = c .before .before .before .before .before .before .before .before .before .before .before in
-    let room = s .pre .0 in
-    let long = length-take-le (length (now (s .args .scan)) * 64) (now (s .args .sites)) (s .pre .1 .1 .1) in (
-      record {
-        some-window = room .some-side;
-        filled = room .filled;
-        bay-energies = omega (arith, long);
-        few-rows = room .few-rows;
-        energies-fit = room .energies-fit;
-        notes-fit = room .notes-fit;
-      },
+    let long = length-take-le (length (now (s .args .scan)) * mostStrands) (now (s .args .sites)) (s .pre .1 .1 .1) in (
+      record { room = s .pre .0; bay-energies = omega (arith, long) },
       (s .pre .1 .0, length-take-le (length (now (s .args .scan))) (now (s .args .order)) (s .pre .1 .1 .0)),
     )
-
-same-length : tie.Need-same-length
-same-length c = search needs
-
-same-length-2 : tie.Need-same-length-2
-same-length-2 c = search needs
-
-same-length-3 : tie.Need-same-length-3
-same-length-3 c = search needs
-
-same-length-4 : tie.Need-same-length-4
-same-length-4 c = search needs
-
-returns : tie.Need-returns
-returns c = search needs
 
 pub run-fronts-spec : {M : Type 1} → statement M
 run-fronts-spec =
     tie.close
     (tie.spec
-    mul-count
+    (λ c. search needs)
     slice-aggregate-run-over
-    slice-relend-prefix-run-over
+    (λ c. search needs)
     slice-aggregate-run-over-2
     run-over-requires
-    same-length
-    same-length-2
-    same-length-3
-    same-length-4
-    returns)
+    (λ c. search needs)
+    (λ c. search needs)
+    (λ c. search needs)
+    (λ c. search needs)
+    (λ c. search needs))

@@ -12,33 +12,6 @@ use Rattle.run_system.proofs.RanOver.{ran-same}
 use Rattle.run_system.proofs.system.run_system.Statement.{statement}
 use Rattle.run_system.proofs.system.run_system.Tie as tie
 
-by-rows-requires : tie.Need-by-rows-requires
-by-rows-requires c κs = search needs
-
-slice-aggregate-fill-bonds : tie.Need-slice-aggregate-fill-bonds
-slice-aggregate-fill-bonds c = search needs
-
-fill-bonds-requires : tie.Need-fill-bonds-requires
-fill-bonds-requires c κs = search needs
-
-slice-aggregate-fill-bonds-2 : tie.Need-slice-aggregate-fill-bonds-2
-slice-aggregate-fill-bonds-2 c = search needs
-
-fill-bonds-requires-2 : tie.Need-fill-bonds-requires-2
-fill-bonds-requires-2 c κs = search needs
-
-run-array-requires : tie.Need-run-array-requires
-run-array-requires c κs = search needs
-
-same-length : tie.Need-same-length
-same-length c = search needs
-
-same-length-2 : tie.Need-same-length-2
-same-length-2 c = search needs
-
-same-length-3 : tie.Need-same-length-3
-same-length-3 c = search needs
-
 returns : tie.Need-returns
 returns c =
     let call = c .before .before .before .before .before .before in
@@ -52,19 +25,19 @@ returns c =
     let majors = first .fill-bonds .ensures ∙ ap bonds (rows .by-rows .ensures) in
     let sides = second .fill-bonds2 .ensures ∙ ap (λ (b : Bool). bonds (not b)) (rows .by-rows .ensures) in
     ran-same (λ (major side : List Float). runScan (window (z .rows) (z .cols)) (now (a .scan)) (siteTable z (now (a .strand-glues)) (now (a .scaffold)) (now (a .delta-g)) (now (a .entropy)) (now (a .logs))) major side)
-    (z .rows) (z .cols) (call .run-array .result) (now (a .layout)) _ (now (a .energies)) _ (now (a .notes)) _ majors sides (call .run-array .ensures)
+    (z .rows) (z .cols) (call .run-sites .result) (now (a .layout)) _ (now (a .energies)) _ (now (a .notes)) _ majors sides (call .run-sites .ensures)
 
 pub run-system-spec : {M : Type 1} → statement M
 run-system-spec =
     tie.close
     (tie.spec
-    by-rows-requires
-    slice-aggregate-fill-bonds
-    fill-bonds-requires
-    slice-aggregate-fill-bonds-2
-    fill-bonds-requires-2
-    run-array-requires
-    same-length
-    same-length-2
-    same-length-3
+    (λ c κs. search needs)
+    (λ c. search needs)
+    (λ c κs. search needs)
+    (λ c. search needs)
+    (λ c κs. search needs)
+    (λ c κs. search needs)
+    (λ c. search needs)
+    (λ c. search needs)
+    (λ c. search needs)
     returns)

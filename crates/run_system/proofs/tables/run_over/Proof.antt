@@ -9,26 +9,11 @@ use Rattle.run_system.proofs.RanOver.{some-bays, ran-bad, ran-good}
 use Rattle.run_system.proofs.tables.run_over.Statement.{statement}
 use Rattle.run_system.proofs.tables.run_over.Tie as tie
 
-window-requires : tie.Need-window-requires
-window-requires c κs = search needs
-
 run-requires : tie.Need-run-requires
 run-requires c κs =
     let w = c .before .before .before in
     let s = w .before .before .before .before .before .before .before in
     (subst (λ (v : ℕ). Fillable v (now (s .args .scan)) (now (s .args .sites)) (length (now (s .args .energies))) (length (now (s .args .notes)))) (sym (w .window .ensures)) (s .pre .0), (some-bays (s .pre .1 .0), s .pre .1 .1))
-
-no-energy-requires : tie.Need-no-energy-requires
-no-energy-requires c κs = search needs
-
-same-length : tie.Need-same-length
-same-length c = search needs
-
-same-length-2 : tie.Need-same-length-2
-same-length-2 c = search needs
-
-same-length-3 : tie.Need-same-length-3
-same-length-3 c = search needs
 
 returns : tie.Need-returns
 returns c =
@@ -37,22 +22,7 @@ returns c =
     let s = w .before .before .before .before .before .before .before in
     let a = s .args in
     ran-bad (a .rows) (a .cols) (w .window .result) (now (a .scan)) (now (a .sites)) (now (a .major)) (now (a .side)) (w .window .ensures) (s .pre .1 .0 .scanned)
-    (now (a .energies)) (now (a .notes)) (ran .run .ensures .0) (ran .run .ensures .1 .1 .0) (ran .run .ensures .1 .1 .1) (now (a .layout)) (c .before .no-energy .ensures) (c .if1 .taken)
-
-lay-out-requires : tie.Need-lay-out-requires
-lay-out-requires c κs = search needs
-
-same-length-4 : tie.Need-same-length-4
-same-length-4 c = search needs
-
-same-length-5 : tie.Need-same-length-5
-same-length-5 c = search needs
-
-same-length-6 : tie.Need-same-length-6
-same-length-6 c = search needs
-
-same-length-7 : tie.Need-same-length-7
-same-length-7 c = search needs
+    (ran .run .ensures) (now (a .layout)) (c .before .no-energy .ensures) (c .if1 .taken)
 
 returns-2 : tie.Need-returns-2
 returns-2 c =
@@ -61,22 +31,22 @@ returns-2 c =
     let s = w .before .before .before .before .before .before .before in
     let a = s .args in
     ran-good (a .rows) (a .cols) (w .window .result) (now (a .scan)) (now (a .sites)) (now (a .major)) (now (a .side)) (w .window .ensures) (s .pre .1 .0 .scanned)
-    (now (a .energies)) (now (a .notes)) (ran .run .ensures .0) (ran .run .ensures .1 .1 .0) (ran .run .ensures .1 .1 .1) (now (a .layout)) _ (now (a .order)) _ (c .before .before .before .before .before .before .no-energy .ensures) (c .before .before .before .before .before .if1 .left) (ran .run .ensures .1 .0) (c .before .before .lay-out .ensures)
+    (ran .run .ensures) (now (a .layout)) _ (c .before .before .before .before .before .before .no-energy .ensures) (c .before .before .before .before .before .if1 .left) (c .before .before .lay-out .ensures)
 
 pub run-over-spec : {M : Type 1} → statement M
 run-over-spec =
     tie.close
     (tie.spec
-    window-requires
+    (λ c κs. search needs)
     run-requires
-    no-energy-requires
-    same-length
-    same-length-2
-    same-length-3
+    (λ c κs. search needs)
+    (λ c. search needs)
+    (λ c. search needs)
+    (λ c. search needs)
     returns
-    lay-out-requires
-    same-length-4
-    same-length-5
-    same-length-6
-    same-length-7
+    (λ c κs. search needs)
+    (λ c. search needs)
+    (λ c. search needs)
+    (λ c. search needs)
+    (λ c. search needs)
     returns-2)

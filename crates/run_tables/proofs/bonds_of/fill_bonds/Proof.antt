@@ -1,10 +1,11 @@
 -- `run_tables::bonds_of::fill_bonds` meets its contract. The invariant: the first i pairs are written. Assumes nothing.
-use Prim.Native.Nat.{ℕ, _-_, _/_, _%_, _≤_}
+use Prim.Native.Nat.{ℕ, _*_, _-_, _/_, _%_, _≤_}
 use mathlib.Core.Path.{_≡_, refl, _∙_}
 use native.Mathlib.Omega.{arith}
 use lib.ListN.{length, take, length-set}
 use denote.Ref.{now}
 use borrow.Author.Needs.{scaled-fits}
+use Rattle.units.specs.Limits.{mostStrands}
 use Rattle.ledger_rows.specs.Blocks.{tab}
 use Rattle.run_tables.specs.Tables.{pairEnergy}
 use Rattle.run_scan_tables.proofs.Written.{one-more, whole, none-yet}
@@ -13,7 +14,7 @@ use Rattle.run_tables.proofs.bonds_of.fill_bonds.Tie as tie
 
 abbrev Inv-loop : tie.InvT-loop
 Inv-loop z strand-glues delta-g entropy north-south table₀ i₀ table i =
-    (i ≤ length table) × (take i table ≡ tab (λ (j : ℕ). pairEnergy z strand-glues delta-g entropy north-south (j % 64) (j / 64)) i) × (length table ≡ length table₀)
+    (i ≤ length table) × (take i table ≡ tab (λ (j : ℕ). pairEnergy z strand-glues delta-g entropy north-south (j % mostStrands) (j / mostStrands)) i) × (length table ≡ length table₀)
 
 abbrev μ-loop : tie.MeasureT-loop
 μ-loop z strand-glues delta-g entropy north-south table₀ i₀ table i = length table₀ - i
@@ -30,15 +31,6 @@ mul-table c =
     let s = turn .before .before .before .before .before .before in
     scaled-fits (turn .before .loop .i) (length (now (s .args .table))) 8 (omega (arith, turn .loop-test .taken, turn .before .loop .inv .2)) (s .good .1 .1 .1 .1 .1 .0 .1)
 
-slice-write-table : tie.Need-slice-write-table Inv-loop μ-loop
-slice-write-table c = omega arith
-
-add-i : tie.Need-add-i Inv-loop μ-loop
-add-i c = omega arith
-
-loop-less : tie.Need-loop-less Inv-loop μ-loop
-loop-less c = omega arith
-
 loop-again : tie.Need-loop-again Inv-loop μ-loop
 loop-again c =
     let turn = c .before in
@@ -46,7 +38,7 @@ loop-again c =
     let table = turn .before .loop .table in
     let i = turn .before .loop .i in (
       simp length-set (omega (arith, turn .loop-test .taken)),
-      one-more (λ (j : ℕ). pairEnergy (a .z) (now (a .strand-glues)) (now (a .delta-g)) (now (a .entropy)) (a .north-south) (j % 64) (j / 64)) table i (turn .before .loop .inv .1) (turn .loop-test .taken) (c .pair-energy .ensures),
+      one-more (λ (j : ℕ). pairEnergy (a .z) (now (a .strand-glues)) (now (a .delta-g)) (now (a .entropy)) (a .north-south) (j % mostStrands) (j / mostStrands)) table i (turn .before .loop .inv .1) (turn .loop-test .taken) (c .pair-energy .ensures),
       simp length-set (turn .before .loop .inv .2),
     )
 
@@ -57,8 +49,8 @@ returns : tie.Need-returns Inv-loop μ-loop
 returns c =
     let s = c .before .before .before .before .before .before in
     let a = s .args in
-    let long : length (c .before .loop .table) ≡ 4096 = c .before .loop .inv .2 ∙ s .pre .1 in
-    whole (λ (j : ℕ). pairEnergy (a .z) (now (a .strand-glues)) (now (a .delta-g)) (now (a .entropy)) (a .north-south) (j % 64) (j / 64)) (c .before .loop .table) (c .before .loop .i) 4096 (c .before .loop .inv .1)
+    let long : length (c .before .loop .table) ≡ mostStrands * mostStrands = c .before .loop .inv .2 ∙ s .pre .1 in
+    whole (λ (j : ℕ). pairEnergy (a .z) (now (a .strand-glues)) (now (a .delta-g)) (now (a .entropy)) (a .north-south) (j % mostStrands) (j / mostStrands)) (c .before .loop .table) (c .before .loop .i) (mostStrands * mostStrands) (c .before .loop .inv .1)
     (omega (arith, c .before .loop .inv .0, c .loop-test .left, long)) long
 
 pub fill-bonds-spec : {M : Type 1} → statement M
@@ -70,9 +62,9 @@ fill-bonds-spec =
     loop-holds
     pair-energy-requires
     mul-table
-    slice-write-table
-    add-i
-    loop-less
+    (λ c. omega arith)
+    (λ c. omega arith)
+    (λ c. omega arith)
     loop-again
     same-length
     returns)

@@ -6,9 +6,6 @@ use Rattle.units.specs.Decimals.{decimal}
 use Rattle.run_tables.proofs.bonds_of.pair_energy.Statement.{statement}
 use Rattle.run_tables.proofs.bonds_of.pair_energy.Tie as tie
 
-edge-beta-between-requires : tie.Need-edge-beta-between-requires
-edge-beta-between-requires c κs = search needs
-
 returns : tie.Need-returns
 returns c = rw (lt-ltb _ _ (c .before .before .before .if1 .taken), lt-ltb _ _ (c .before .if2 .taken)) (c .edge-beta-between .ensures)
 
@@ -21,4 +18,4 @@ unfolding ofBits decimal
 returns-3 c = rw (le-ltb _ _ (c .if1 .left))
 
 pub pair-energy-spec : {M : Type 1} → statement M
-pair-energy-spec = tie.close (tie.spec edge-beta-between-requires returns returns-2 returns-3)
+pair-energy-spec = tie.close (tie.spec (λ c κs. search needs) returns returns-2 returns-3)
