@@ -4,14 +4,10 @@ use mathlib.Core.Bool.{cond}
 use mathlib.Core.List.{List, [], _++_}
 use lib.Dec.{eqb}
 use Rattle.name_strands.specs.Names.{Names}
-use Rattle.text_put.specs.Puts.{numberText}
+use Rattle.text_put.specs.Words.{bytes}
+use Rattle.text_put.specs.Forms.{filled}
 use Rattle.plan_bay_names.specs.Bays.{nameOf}
-use Rattle.plan_xml_text.specs.Words.{bytes}
 use Rattle.plan_name_drawing.specs.Letters.{label}
-
--- the tag that opens what lies at a place
-abbrev pub place : (across down : ℕ) → List ℕ
-place across down = bytes "<g transform=\"translate(" ++ numberText across ++ bytes "," ++ numberText down ++ bytes ")\">"
 
 -- a square that holds a tile is filled
 unfoldable pub filling : (tile : ℕ) → List ℕ
@@ -21,12 +17,14 @@ filling tile = cond (eqb tile 0) [] (bytes "tile ")
 unfoldable pub border : (mark : ℕ) → List ℕ
 border mark = cond (eqb mark 0) (bytes "free") (cond (eqb mark 2) (bytes "seed") (bytes "restricted"))
 
-abbrev pub square : (tile mark : ℕ) → List ℕ
-square tile mark = bytes "<rect class=\"" ++ filling tile ++ border mark ++ bytes "\" width=\"72\" height=\"72\"/>"
+-- the square, with the tag that opens what lies at its place
+abbrev pub square : (across down tile mark : ℕ) → List ℕ
+square across down tile mark =
+    filled across down (bytes "<g transform=\"translate($,@)\"><rect class=\"") ++ filling tile ++ border mark ++ bytes "\" width=\"72\" height=\"72\"/>"
 
 -- the name of the tile; an empty bay is blank
 unfoldable pub tileLabel : Names → (tile : ℕ) → List ℕ
 tileLabel n tile = cond (eqb tile 0) [] (label (nameOf n tile))
 
 abbrev pub bayDrawing : Names → (across down tile mark : ℕ) → List ℕ
-bayDrawing n across down tile mark = place across down ++ square tile mark ++ tileLabel n tile ++ bytes "</g>\n"
+bayDrawing n across down tile mark = square across down tile mark ++ tileLabel n tile ++ bytes "</g>\n"

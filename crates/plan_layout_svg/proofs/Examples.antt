@@ -1,16 +1,17 @@
 -- A small drawing, computed. Assumes nothing.
-use mathlib.Core.List.{[], _∷_, _++_}
+use mathlib.Core.List.{[], _∷_, _++_, flatMap}
 use mathlib.Core.Path.{_≡_, refl}
 use mathlib.Core.Bool.{true}
 use lib.Ieee.{binary64, round}
 use Rattle.text_entries.specs.Entries.{offsetsFrom, areFlags, sameBytes}
 use Rattle.name_strands.specs.Numerals.{numeralsFrom, numeralsText}
 use Rattle.name_strands.specs.Names.{Names, names, namesSized, nullFirst, namesRead}
+use Rattle.text_put.specs.Words.{bytes}
 use Rattle.text_put.specs.Puts.{decimal, numberText}
+use Rattle.text_put.specs.Forms.{filledByte}
 use Rattle.text_energy.specs.Hundredths.{hundredths, isSmall, isNegative, energyText}
 use Rattle.plan_bay_names.specs.Bays.{nameOf, begun, characterCount}
-use Rattle.plan_xml_text.specs.Words.{bytes}
-use Rattle.plan_xml_text.specs.Escaped.{escapedByte, escaped}
+use Rattle.plan_name_drawing.specs.Escaped.{escapedByte}
 use Rattle.plan_name_drawing.specs.Letters.{letterSize, label}
 use Rattle.plan_bay_drawing.specs.Squares.{filling, border, tileLabel}
 use Rattle.plan_layout_svg.specs.Drawing.{rowDrawing, rowsDrawing, svgText}
@@ -42,5 +43,5 @@ a-seed-and-an-empty-bay : svgText 1 2 two (1 ∷ 0 ∷ []) (2 ∷ 3 ∷ []) (rou
     ++ bytes "<rect class=\"restricted\" x=\"86\" width=\"20\" height=\"20\"/><text class=\"key\" x=\"116\" y=\"15\">restricted</text>\n"
     ++ bytes "</g>\n"
     ++ bytes "</svg>\n"
-unfolding two offsetsFrom areFlags sameBytes numeralsFrom namesSized nullFirst namesRead round decimal numberText hundredths isSmall isNegative energyText nameOf begun characterCount bytes escapedByte escaped letterSize label filling border tileLabel rowDrawing rowsDrawing svgText
+unfolding two flatMap offsetsFrom areFlags sameBytes numeralsFrom namesSized nullFirst namesRead round decimal numberText filledByte hundredths isSmall isNegative energyText nameOf begun characterCount escapedByte letterSize label filling border tileLabel rowDrawing rowsDrawing svgText
 a-seed-and-an-empty-bay = refl

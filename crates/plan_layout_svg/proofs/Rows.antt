@@ -6,6 +6,7 @@ use native.Mathlib.Nat.{add-zero, add-assoc}
 use native.Mathlib.Omega.{arith}
 use lib.ListN.{length, getD, drop}
 use lib.Seq.{drop-drop, getD-drop}
+use Rattle.units.specs.Limits.{mostSide}
 use Rattle.name_strands.specs.Names.{Names}
 use Rattle.text_put.specs.Puts.{Put}
 use Rattle.text_put.proofs.Putting.{Ending, ending-starts, ending-goes-on, ending-ends}
@@ -76,11 +77,11 @@ module _ (n : Names) (layout marks : List ℕ) where
     unfolding rowsDrawing
     rest-end row bay = refl
 
-    -- what is left of the rows will end them, and there are at most 32 bays for each row before them
+    -- what is left of the rows will end them, and each row before them has as many bays as a side may have, at the most
     pub record Grid (rows : ℕ) (old : List ℕ) (at : ℕ) (out : List ℕ) (next bay row : ℕ) : Type 0 where
       pub ending : Ending old at (rowsDrawing n columns 0 layout marks rows) (rest row bay (rows - row)) out next
       pub within : row ≤ rows
-      pub few : bay ≤ 32 * row
+      pub few : bay ≤ mostSide * row
 
     module _ (rows : ℕ) (old : List ℕ) (at : ℕ) where
       pub grid-starts : at ≤ length old → Grid rows old at old at 0 0
@@ -89,7 +90,7 @@ module _ (n : Names) (layout marks : List ℕ) where
           record { ending = rw all (ending-starts (rowsDrawing n columns 0 layout marks rows) h); within = omega arith; few = omega arith }
 
       module _ (out : List ℕ) (next bay row : ℕ) (s : Grid rows old at out next bay row) where
-        pub grid-goes-on : row < rows → columns ≤ 32 → {r : ℕ} {out' : List ℕ} → Put out next (rowDrawing n row 0 (drop bay layout) (drop bay marks) columns) r out'
+        pub grid-goes-on : row < rows → columns ≤ mostSide → {r : ℕ} {out' : List ℕ} → Put out next (rowDrawing n row 0 (drop bay layout) (drop bay marks) columns) r out'
             → Grid rows old at out' r (bay + columns) (row + 1)
         grid-goes-on h small p =
             let more : rows - row ≡ suc (rows - (row + 1)) = omega arith in

@@ -1,22 +1,23 @@
 -- Laws of the whole drawing: a grid that is drawn, and one that is not. Assumes nothing.
 use Prim.Native.Nat.{ℕ, _+_, _*_, _≤_}
-use mathlib.Core.Bool.{Bool, true, false, cond, not, _&&_}
+use mathlib.Core.Bool.{Bool, true, false, cond, not}
 use mathlib.Core.List.{List, [], _++_}
 use mathlib.Core.Path.{_≡_, sym, _∙_, ap}
 use borrow.Author.Tests.{leb-true, not-true, not-false}
 use lib.Dec.{leb}
 use lib.Ieee.{Float}
-use Rattle.text_entries.proofs.Same.{both}
+use Rattle.units.specs.Limits.{mostSide}
+use Rattle.units.proofs.Tests.{both}
 use Rattle.name_strands.specs.Names.{Names}
-use Rattle.plan_drawing_frame.specs.Frame.{head, foot}
-use Rattle.plan_layout_svg.specs.Drawing.{rowsDrawing, pixelsAcross, drawing, svgText}
+use Rattle.plan_layout_svg.specs.Frame.{head, foot}
+use Rattle.plan_layout_svg.specs.Drawing.{rowsDrawing, pixelsAcross, isDrawn, drawing, svgText}
 
-module _ (rows columns : ℕ) {room : Bool} (e : room ≡ (leb rows 32 && leb columns 32)) where
-  has-room : not room ≡ false → (leb rows 32 && leb columns 32) ≡ true
+module _ (rows columns : ℕ) {room : Bool} (e : room ≡ isDrawn rows columns) where
+  has-room : not room ≡ false → isDrawn rows columns ≡ true
   has-room h = sym e ∙ not-false room h
 
-  pub small : not room ≡ false → (rows ≤ 32) × (columns ≤ 32)
-  small h = let t = both (leb rows 32) (leb columns 32) (has-room h) in (leb-true rows 32 (t .0), leb-true columns 32 (t .1))
+  pub small : not room ≡ false → (rows ≤ mostSide) × (columns ≤ mostSide)
+  small h = let t = both (leb rows mostSide) (leb columns mostSide) (has-room h) in (leb-true rows mostSide (t .0), leb-true columns mostSide (t .1))
 
   module _ (n : Names) (layout marks : List ℕ) (energy : Float) where
     pub drawn : not room ≡ false → {width : ℕ} → width ≡ pixelsAcross columns

@@ -1,13 +1,14 @@
 -- A layout as a drawing in SVG: the bays of a row, the rows, the whole. Assumes nothing.
 use Prim.Native.Nat.{ℕ, zero, suc, _+_, _*_, max}
-use mathlib.Core.Bool.{cond, _&&_}
+use mathlib.Core.Bool.{Bool, cond, _&&_}
 use mathlib.Core.List.{List, [], _++_}
 use lib.Dec.{leb}
 use lib.Ieee.{Float}
 use lib.ListN.{getD, drop}
+use Rattle.units.specs.Limits.{mostSide}
 use Rattle.name_strands.specs.Names.{Names}
-use Rattle.plan_drawing_frame.specs.Frame.{head, foot}
 use Rattle.plan_bay_drawing.specs.Squares.{bayDrawing}
+use Rattle.plan_layout_svg.specs.Frame.{head, foot}
 
 -- so many bays of a row from a column on; tiles and marks that are not there are 0
 unfoldable pub rowDrawing : Names → (row column : ℕ) → (tiles marks : List ℕ) → (left : ℕ) → List ℕ
@@ -32,6 +33,9 @@ abbrev pub drawing : (rows columns : ℕ) → Names → (layout marks : List ℕ
 drawing rows columns n layout marks energy =
     head (pixelsAcross columns) (pixelsDown rows) energy ++ rowsDrawing n columns 0 layout marks rows ++ foot (80 * rows + 78)
 
--- nothing is drawn of a grid with more than 32 rows or columns
+-- nothing is drawn of a grid with more rows or columns than there may be
+abbrev pub isDrawn : (rows columns : ℕ) → Bool
+isDrawn rows columns = leb rows mostSide && leb columns mostSide
+
 unfoldable pub svgText : (rows columns : ℕ) → Names → (layout marks : List ℕ) → Float → List ℕ
-svgText rows columns n layout marks energy = cond (leb rows 32 && leb columns 32) (drawing rows columns n layout marks energy) []
+svgText rows columns n layout marks energy = cond (isDrawn rows columns) (drawing rows columns n layout marks energy) []

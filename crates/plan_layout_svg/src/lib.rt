@@ -1,19 +1,21 @@
 // A layout drawn in SVG, put into a lent text as far as it fits.
 //
-// Each function puts its part at the place `at`, leaves the rest of the text as it is, and answers the next place.
+// Each `put_` function puts its part at the place `at`, leaves the rest of the text as it is, and gives back the next place.
+mod frame;
+
 ghost use mathlib.Core.Path.{_≡_};
-ghost use mathlib.Core.Bool.{_&&_};
-ghost use Prim.Native.Nat.{_+_, _*_, _≤_};
-ghost use lib.Dec.{leb};
+ghost use Prim.Native.Nat.{_*_, _≤_};
 ghost use lib.ListN.{length, getD, drop};
+ghost use Rattle.units.specs.Limits.{mostSide};
 ghost use Rattle.text_put.specs.Puts.{Put};
 ghost use Rattle.name_strands.specs.Names.{names};
-ghost use Rattle.plan_layout_svg.specs.Drawing.{rowDrawing, rowsDrawing, pixelsAcross, svgText};
+ghost use Rattle.plan_layout_svg.specs.Drawing.{rowDrawing, rowsDrawing, pixelsAcross, isDrawn, svgText};
+use crate::frame::put_foot;
+use crate::frame::put_head;
 use plan_bay_drawing::put_bay;
 use plan_bay_names::tile_at;
-use plan_drawing_frame::put_foot;
-use plan_drawing_frame::put_head;
 use text_put::put_text;
+use units::MOST_SIDE;
 
 // The drawing of a layout, with a mark for each bay: 0 free, 1 with a list, 2 seeded, 3 kept empty by a list of 0.
 pub fn put_svg<'a>(
@@ -53,17 +55,14 @@ pub fn put_svg<'a>(
 
 // Whether a grid is drawn.
 fn has_room(rows: usize, cols: usize) -> bool
-    ensures { λ r. ⌜ r ≡ leb rows 32 && leb cols 32 ⌝ }
+    ensures { λ r. ⌜ r ≡ isDrawn rows cols ⌝ }
 {
-    if rows <= 32 {
-        return cols <= 32;
-    }
-    false
+    rows <= MOST_SIDE && cols <= MOST_SIDE
 }
 
 // How many pixels wide a drawing is.
 fn across(cols: usize) -> u64
-    requires { ⌜ cols ≤ 32 ⌝ }
+    requires { ⌜ cols ≤ mostSide ⌝ }
     ensures { λ r. ⌜ r ≡ pixelsAcross cols ⌝ }
 {
     if cols < 3 {
@@ -85,7 +84,7 @@ fn put_rows<'a>(
     out: &mut [u8],
     at: usize,
 ) -> usize
-    requires { ⌜ (rows ≤ 32) × (cols ≤ 32) ⌝ }
+    requires { ⌜ (rows ≤ mostSide) × (cols ≤ mostSide) ⌝ }
     requires { ⌜ at ≤ length (now out) ⌝ }
     ensures { λ r. let n = names (now (text .entry)) (now (offsets .entry)) (now (present .entry)) (now (numerals .entry)) in
         ⌜ Put (now (out .entry)) at (rowsDrawing n cols 0 (now (layout .entry)) (now (marks .entry)) rows) r (now (out .exit)) ⌝ }
@@ -127,7 +126,7 @@ fn put_row<'a>(
     out: &mut [u8],
     at: usize,
 ) -> usize
-    requires { ⌜ (row ≤ 32) × (cols ≤ 32) × (first ≤ 1024) ⌝ }
+    requires { ⌜ (row ≤ mostSide) × (cols ≤ mostSide) × (first ≤ mostSide * mostSide) ⌝ }
     requires { ⌜ at ≤ length (now out) ⌝ }
     ensures { λ r. let n = names (now (text .entry)) (now (offsets .entry)) (now (present .entry)) (now (numerals .entry)) in
         ⌜ Put (now (out .entry)) at (rowDrawing n row 0 (drop first (now (layout .entry))) (drop first (now (marks .entry))) cols) r (now (out .exit)) ⌝ }

@@ -11,8 +11,8 @@ use lib.Dec.{leb}
 use lib.ListN.{length, getD, drop, drop-of-length-le}
 use lib.Seq.{drop-drop, getD-drop}
 use Rattle.name_strands.specs.Names.{Names}
-use Rattle.text_put.specs.Puts.{written, Put}
-use Rattle.text_put.proofs.Putting.{put-nowhere, Ending, ending-goes-on, ending-ends}
+use Rattle.text_put.specs.Puts.{Put}
+use Rattle.text_put.proofs.Putting.{Ending, ending-goes-on}
 use Rattle.plan_bay_names.specs.Bays.{bayText, characterCount}
 use Rattle.plan_layout_text.specs.Grid.{spaces, gap, cellText, rowText, rowsText}
 
@@ -82,23 +82,6 @@ stops layout bay by {next} e = drop-drop by bay layout ∙ go (leb (bay + by) (l
 
 pub tile-there : (layout : List ℕ) (bay : ℕ) → getD layout bay 0 ≡ getD (drop bay layout) 0 0
 tile-there layout bay = sym (getD-drop bay layout 0 0 ∙ ap (λ (k : ℕ). getD layout k 0) (add-zero bay))
-
--- putting starts at a place, or at the slice's end where the place lies past it
-pub starts-anywhere : {old : List ℕ} {at : ℕ} (whole : List ℕ) {next : ℕ} → next ≡ min at (length old) → Ending old at whole whole old next
-starts-anywhere {old} {at} whole {next} e = record { long = refl; within = omega arith; place = omega arith; slice = go (leb at (length old)) refl }
-  where
-    go : (t : Bool) → leb at (length old) ≡ t → written old next whole ≡ written old at whole
-    go true h = let k = leb-true at (length old) h in let same : next ≡ at = omega arith in rw same
-    go false h =
-        let k = leb-false at (length old) h in
-        let last : length old ≤ next = omega arith in
-        let past : length old ≤ at = omega arith in
-        sym (put-nowhere old next whole last) ∙ put-nowhere old at whole past
-
--- the last part ends the text
-pub last-part : {old : List ℕ} {at : ℕ} {whole left out : List ℕ} {next : ℕ} → Ending old at whole left out next → (a : List ℕ) → left ≡ a
-    → {r : ℕ} {out' : List ℕ} → Put out next a r out' → Put old at whole r out'
-last-part s a e p = ending-ends (ending-goes-on s a [] (e ∙ sym (append-nil a)) p) refl
 
 -- ---- turns
 

@@ -1,6 +1,6 @@
 // A layout written as a grid of tile names, one row a line, into a lent text as far as it fits.
 //
-// Each function puts its part at the place `at`, leaves the rest of the text as it is, and answers the next place.
+// Each `put_` function puts its part at the place `at`, leaves the rest of the text as it is, and gives back the next place.
 ghost use mathlib.Core.Path.{_≡_};
 ghost use Prim.Native.Nat.{_+_, _-_, _≤_, min};
 ghost use lib.ListN.{length, drop};
@@ -12,6 +12,8 @@ use plan_bay_names::characters;
 use plan_bay_names::name_of;
 use plan_bay_names::tile_at;
 use plan_bay_names::widest_bay;
+use text_put::chosen;
+use text_put::least;
 use text_put::put_text;
 
 // The grid of a layout.
@@ -106,16 +108,8 @@ fn put_bay<'a>(
     ensures { λ r. let n = names (now (text .entry)) (now (offsets .entry)) (now (present .entry)) (now (numerals .entry)) in
         ⌜ Put (now (out .entry)) at (cellText width left (bayText n tile)) r (now (out .exit)) ⌝ }
 {
-    if tile == 0 {
-        return put_cell(b".", width, left, out, at);
-    }
-    put_cell(
-        name_of(text, offsets, present, numerals, tile),
-        width,
-        left,
-        out,
-        at,
-    )
+    let name = name_of(text, offsets, present, numerals, tile);
+    put_cell(chosen(tile == 0, b".", name), width, left, out, at)
 }
 
 // A text with spaces behind it to the width of a column, unless it is the last of its row.
@@ -155,10 +149,4 @@ fn least_sum(a: usize, b: usize, limit: usize) -> usize
         return limit;
     }
     a + b
-}
-
-fn least(a: usize, b: usize) -> usize
-    ensures { λ r. ⌜ r ≡ min a b ⌝ }
-{
-    if a < b { a } else { b }
 }

@@ -4,10 +4,10 @@ use mathlib.Core.Bool.{cond}
 use mathlib.Core.List.{List, _++_}
 use lib.Dec.{ltb}
 use lib.ListN.{take, drop}
-use Rattle.text_put.specs.Puts.{numberText}
+use Rattle.text_put.specs.Words.{bytes}
+use Rattle.text_put.specs.Forms.{filled}
 use Rattle.plan_bay_names.specs.Bays.{characterCount, frontBytes}
-use Rattle.plan_xml_text.specs.Words.{bytes}
-use Rattle.plan_xml_text.specs.Escaped.{escaped}
+use Rattle.plan_name_drawing.specs.Escaped.{escaped}
 
 -- the size of letters of which so many fit into the square side by side: at most 16, at least 1
 unfoldable pub letterSize : (count : ℕ) → ℕ
@@ -15,9 +15,7 @@ letterSize count = cond (ltb count 7) 16 (cond (ltb count 101) (100 / count) 1)
 
 -- letters of a size on one line, so many pixels down
 abbrev pub line : (down size : ℕ) → (text : List ℕ) → List ℕ
-line down size text =
-    bytes "<text class=\"name\" x=\"36\" y=\"" ++ numberText down ++ bytes "\" font-size=\"" ++ numberText size ++ bytes "\">"
-    ++ escaped text ++ bytes "</text>"
+line down size text = filled down size (bytes "<text class=\"name\" x=\"36\" y=\"$\" font-size=\"@\">") ++ escaped text ++ bytes "</text>"
 
 -- a text on one line, and on two of which the first has so many characters
 abbrev pub oneLine : (size : ℕ) → (text : List ℕ) → List ℕ

@@ -1,13 +1,15 @@
 // A name in the middle of a square, put into a lent text as far as it fits.
 //
-// Each function puts its part at the place `at`, leaves the rest of the text as it is, and answers the next place.
+// Each `put_` function puts its part at the place `at`, leaves the rest of the text as it is, and gives back the next place.
 ghost use mathlib.Core.Path.{_≡_};
 ghost use Rattle.text_put.specs.Puts.{Put};
+ghost use Rattle.plan_name_drawing.specs.Escaped.{escapedByte, escaped};
 ghost use Rattle.plan_name_drawing.specs.Letters.{letterSize, line, twoLines, label};
 use plan_bay_names::characters;
 use plan_bay_names::front;
-use plan_xml_text::put_escaped;
-use text_put::put_number;
+use text_put::chosen;
+use text_put::least;
+use text_put::put_form;
 use text_put::put_text;
 
 // A name, on one line or on two.
@@ -36,13 +38,40 @@ fn put_two_lines(first: usize, text: &[u8], out: &mut [u8], at: usize) -> usize
 fn put_line(down: u64, size: u64, text: &[u8], out: &mut [u8], at: usize) -> usize
     ensures { λ r. ⌜ Put (now (out .entry)) at (line down size (now (text .entry))) r (now (out .exit)) ⌝ }
 {
-    let first = put_text(out, at, b"<text class=\"name\" x=\"36\" y=\"");
-    let attribute = put_number(out, first, down);
-    let second = put_text(out, attribute, b"\" font-size=\"");
-    let close = put_number(out, second, size);
-    let letters = put_text(out, close, b"\">");
+    let letters = put_form(
+        out,
+        at,
+        b"<text class=\"name\" x=\"36\" y=\"$\" font-size=\"@\">",
+        down,
+        size,
+    );
     let end = put_escaped(out, letters, text);
     put_text(out, end, b"</text>")
+}
+
+// A text between tags, where its signs have no meaning of their own.
+fn put_escaped(out: &mut [u8], at: usize, text: &[u8]) -> usize
+    ensures { λ r. ⌜ Put (now (out .entry)) at (escaped (now (text .entry))) r (now (out .exit)) ⌝ }
+{
+    let mut next = least(at, out.len());
+    let mut i = 0;
+    while i < text.len() {
+        next = put_byte(out, next, text[i]);
+        i += 1;
+    }
+    next
+}
+
+// A byte of it.
+fn put_byte(out: &mut [u8], at: usize, byte: u8) -> usize
+    ensures { λ r. ⌜ Put (now (out .entry)) at (escapedByte byte) r (now (out .exit)) ⌝ }
+{
+    let own = [byte];
+    let above = chosen(byte == b'>', b"&gt;", &own);
+    let below = chosen(byte == b'<', b"&lt;", above);
+    let joined = chosen(byte == b'&', b"&amp;", below);
+    let quoted = chosen(byte == b'"', b"&quot;", joined);
+    put_text(out, at, chosen(byte < 32, b" ", quoted))
 }
 
 // The size of letters of which so many fit side by side.

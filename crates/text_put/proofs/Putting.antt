@@ -1,15 +1,15 @@
--- Laws of a text that is put into a slice: the turns of the copy, and that two texts put one after the other are their concatenation. Assumes nothing.
+-- Laws of a text that is put into a slice: the turns of the copy, that two texts put one after the other are their concatenation, and a text that is put part by part. Assumes nothing.
 use Prim.Native.Nat.{ℕ, _+_, _-_, _≤_, _<_, min}
 use mathlib.Core.Bool.{Bool, true, false}
-use mathlib.Core.List.{List, [], _++_, append-assoc}
+use mathlib.Core.List.{List, [], _++_, append-assoc, append-nil, flatMap}
 use mathlib.Core.Path.{_≡_, refl, sym, ap, _∙_}
 use native.Mathlib.Nat.{add-assoc}
 use native.Mathlib.Numerals.{add-one}
 use native.Mathlib.Omega.{arith}
 use borrow.Author.Tests.{leb-true, leb-false}
 use lib.Dec.{leb}
-use lib.ListN.{length, getD, take, drop, set, length-append, length-set}
-use lib.Seq.{paste, paste-zero, paste-suc, length-paste, take-paste, drop-paste, drop-drop, take-length, take-append-add, take-append-le}
+use lib.ListN.{length, getD, take, drop, set, length-append, length-set, drop-of-length-le}
+use lib.Seq.{paste, paste-zero, paste-suc, length-paste, take-paste, drop-paste, drop-cons, drop-drop, take-length, take-append-add, take-append-le}
 use Rattle.text_put.specs.Puts.{written, placeAfter, Put}
 
 -- no place in the slice: nothing is written
@@ -138,6 +138,18 @@ pub record Ending (old : List ℕ) (at : ℕ) (whole left out : List ℕ) (next 
 pub ending-starts : {old : List ℕ} {at : ℕ} (whole : List ℕ) → at ≤ length old → Ending old at whole whole old at
 ending-starts whole h = record { long = refl; within = h; place = refl; slice = refl }
 
+-- putting starts at a place, or at the slice's end where the place lies past it
+pub starts-anywhere : {old : List ℕ} {at : ℕ} (whole : List ℕ) {next : ℕ} → next ≡ min at (length old) → Ending old at whole whole old next
+starts-anywhere {old} {at} whole {next} e = record { long = refl; within = omega arith; place = omega arith; slice = go (leb at (length old)) refl }
+  where
+    go : (t : Bool) → leb at (length old) ≡ t → written old next whole ≡ written old at whole
+    go true h = let k = leb-true at (length old) h in let same : next ≡ at = omega arith in rw same
+    go false h =
+        let k = leb-false at (length old) h in
+        let last : length old ≤ next = omega arith in
+        let past : length old ≤ at = omega arith in
+        sym (put-nowhere old next whole last) ∙ put-nowhere old at whole past
+
 module _ {old : List ℕ} {at : ℕ} {whole left out : List ℕ} {next : ℕ} (s : Ending old at whole left out next) where
   pub ending-goes-on : (a more : List ℕ) → left ≡ a ++ more → {r : ℕ} {out' : List ℕ} → Put out next a r out' → Ending old at whole more out' r
   ending-goes-on a more e p =
@@ -156,3 +168,27 @@ module _ {old : List ℕ} {at : ℕ} {whole left out : List ℕ} {next : ℕ} (s
       let none : min 0 (length out - next) ≡ 0 = omega arith in
       let same : written out next left ≡ out = rw (e, none) (sym (paste-zero out next [])) in
       record { place = sym here ∙ s .place; slice = sym same ∙ s .slice }
+
+-- the last part ends the text
+pub last-part : {old : List ℕ} {at : ℕ} {whole left out : List ℕ} {next : ℕ} → Ending old at whole left out next → (a : List ℕ) → left ≡ a
+    → {r : ℕ} {out' : List ℕ} → Put out next a r out' → Put old at whole r out'
+last-part s a e p = ending-ends (ending-goes-on s a [] (e ∙ sym (append-nil a)) p) refl
+
+-- ---- a text of which each byte gives a text
+
+module _ (each : ℕ → List ℕ) (text : List ℕ) (i : ℕ) where
+  next-byte : i < length text → flatMap each (drop i text) ≡ each (getD text i 0) ++ flatMap each (drop (i + 1) text)
+  unfolding flatMap
+  next-byte h = rw (drop-cons text i 0 h, add-one i)
+
+  no-byte : length text ≤ i → flatMap each (drop i text) ≡ []
+  unfolding flatMap
+  no-byte h = rw (drop-of-length-le text h)
+
+  module _ {old : List ℕ} {at : ℕ} {whole out : List ℕ} {next : ℕ} (s : Ending old at whole (flatMap each (drop i text)) out next) where
+    pub byte-goes-on : i < length text → {r : ℕ} {out' : List ℕ} → Put out next (each (getD text i 0)) r out'
+        → Ending old at whole (flatMap each (drop (i + 1) text)) out' r
+    byte-goes-on h p = ending-goes-on s (each (getD text i 0)) (flatMap each (drop (i + 1) text)) (next-byte h) p
+
+    pub bytes-end : length text ≤ i → Put old at whole next out
+    bytes-end h = ending-ends s (no-byte h)

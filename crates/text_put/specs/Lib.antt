@@ -1,1 +1,3 @@
+pub mod Words
 pub mod Puts
+pub mod Forms

@@ -1,4 +1,4 @@
--- What the contracts cite of answer lines: a text put into a slice, and numbers and floats as text. Assumes nothing.
+-- A text put into a slice, and numbers and floats as text. Assumes nothing.
 use Prim.Native.Nat.{ℕ, zero, suc, _+_, _-_, _/_, _%_, min}
 use mathlib.Core.Bool.{cond}
 use mathlib.Core.List.{List, [], _∷_, _++_}

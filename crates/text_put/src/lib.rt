@@ -1,12 +1,14 @@
-// What every answer is made of: a text, a number and a float, put into a lent slice.
+// Text put into a lent slice: a text, a number, a float, a form with its numbers.
 //
-// Each function puts a text at the place `at`, leaves the rest of the slice as it is, and answers the next place.
-// What does not fit is cut off, and the next place is then the slice's end: a run of these calls leaves the answer, or as much
-// of its front as has room.
+// Each `put_` function puts a text at the place `at`, leaves the rest of the slice as it is, and gives back the next place.
+// What does not fit is cut off, and the next place is then the slice's end: a run of these calls leaves the texts one after
+// the other, or as much of their front as has room.
 ghost use mathlib.Core.Path.{_≡_};
+ghost use mathlib.Core.Bool.{cond};
 ghost use Prim.Native.Nat.{min};
 ghost use lib.IntN.{natAbs};
 ghost use Rattle.text_put.specs.Puts.{Put, numberText, signedText, floatText};
+ghost use Rattle.text_put.specs.Forms.{filledByte, filled};
 
 // Puts the bytes of `text`.
 pub fn put_text(out: &mut [u8], at: usize, text: &[u8]) -> usize
@@ -69,7 +71,41 @@ fn size(n: i32) -> u64
     }
 }
 
-fn least(a: usize, b: usize) -> usize
+// Puts a form: a text in which `$` stands for one number and `@` for another.
+pub fn put_form(out: &mut [u8], at: usize, form: &[u8], one: u64, other: u64) -> usize
+    ensures { λ r. ⌜ Put (now (out .entry)) at (filled one other (now (form .entry))) r (now (out .exit)) ⌝ }
+{
+    let mut next = least(at, out.len());
+    let mut i = 0;
+    while i < form.len() {
+        next = put_sign(out, next, form[i], one, other);
+        i += 1;
+    }
+    next
+}
+
+// Puts what a byte of a form stands for.
+fn put_sign(out: &mut [u8], at: usize, byte: u8, one: u64, other: u64) -> usize
+    ensures { λ r. ⌜ Put (now (out .entry)) at (filledByte one other byte) r (now (out .exit)) ⌝ }
+{
+    if byte == b'$' {
+        return put_number(out, at, one);
+    }
+    if byte == b'@' {
+        return put_number(out, at, other);
+    }
+    put_text(out, at, &[byte])
+}
+
+// One of two texts, by a test.
+pub fn chosen<'a>(test: bool, one: &'a [u8], other: &'a [u8]) -> &'a [u8]
+    ensures { λ r. ⌜ now r ≡ cond test (now (one .entry)) (now (other .entry)) ⌝ }
+{
+    if test { one } else { other }
+}
+
+// The smaller of two numbers.
+pub fn least(a: usize, b: usize) -> usize
     ensures { λ r. ⌜ r ≡ min a b ⌝ }
 {
     if a < b { a } else { b }

@@ -1,50 +1,23 @@
--- `plan_bay_drawing::put_square` meets its contract. Assumes nothing.
-use mathlib.Core.Path.{refl}
+-- `plan_bay_drawing::put_square` meets its contract: four texts, of which two are chosen. Assumes nothing.
 use Rattle.text_put.proofs.Putting.{put-as, then-put}
-use Rattle.plan_xml_text.specs.Words.{bytes}
+use Rattle.plan_bay_drawing.specs.Squares.{filling, border}
 use borrow.Author.Needs.{needs}
 use Rattle.plan_bay_drawing.proofs.put_square.Statement.{statement}
 use Rattle.plan_bay_drawing.proofs.put_square.Tie as tie
 
-slice-aggregate-put-text : tie.Need-slice-aggregate-put-text
-slice-aggregate-put-text c = search needs
-
-put-text-requires : tie.Need-put-text-requires
-put-text-requires c κs = search needs
-
-put-filling-requires : tie.Need-put-filling-requires
-put-filling-requires c κs = search needs
-
-put-border-requires : tie.Need-put-border-requires
-put-border-requires c κs = search needs
-
-slice-aggregate-put-text-2 : tie.Need-slice-aggregate-put-text-2
-slice-aggregate-put-text-2 c = search needs
-
-put-text-requires-2 : tie.Need-put-text-requires-2
-put-text-requires-2 c κs = search needs
-
-same-length : tie.Need-same-length
-same-length c = search needs
-
 returns : tie.Need-returns
-unfolding bytes
+unfolding filling border
 returns c =
-    let part4 = c .before .before in
-    let part3 = part4 .before .before .before .before .before in
-    let part2 = part3 .before .before .before .before in
-    let part1 = part2 .before .before .before .before in
-    put-as refl (then-put (then-put (then-put (part1 .put-text .ensures) (part2 .put-filling .ensures)) (part3 .put-border .ensures)) (part4 .put-text2 .ensures))
+    let size = c .before .before in
+    let edge = size .before .before .before .before .before in
+    let asked = edge .before .before .before .before in
+    let fill = asked .before .before .before .before .before in
+    let place = fill .before .before .before .before .before .before .before in
+    let filled = put-as (fill .before .chosen .ensures) (fill .put-text .ensures) in
+    then-put (then-put (then-put (place .put-form .ensures) filled) (put-as (rw (edge .before .chosen3 .ensures, asked .chosen2 .ensures)) (edge .put-text2 .ensures))) (size .put-text3 .ensures)
 
 pub put-square-spec : {M : Type 1} → statement M
 put-square-spec =
     tie.close
-    (tie.spec
-    slice-aggregate-put-text
-    put-text-requires
-    put-filling-requires
-    put-border-requires
-    slice-aggregate-put-text-2
-    put-text-requires-2
-    same-length
-    returns)
+    (tie.spec (search needs) (search needs) (search needs) (search needs) (search needs) (search needs) (search needs)
+    (search needs) (search needs) (search needs) (search needs) (search needs) (search needs) (search needs) (search needs) returns)

@@ -16,20 +16,8 @@ abbrev μ-loop : tie.MeasureT-loop
 loop-holds : tie.Need-loop-holds Inv-loop μ-loop
 loop-holds c = counted-starts _
 
-shared-slice-read-begins : tie.Need-shared-slice-read-begins Inv-loop μ-loop
-shared-slice-read-begins c = omega arith
-
-begins-requires : tie.Need-begins-requires Inv-loop μ-loop
-begins-requires c κs = search needs
-
 add-count : tie.Need-add-count Inv-loop μ-loop
 add-count c = let l = c .before .before .before in omega (arith, l .loop .inv .few, begun-few (getD (l .before .before .args .text .now) (l .loop .i) 0), c .begins .ensures, c .before .before .loop-test .taken)
-
-add-i : tie.Need-add-i Inv-loop μ-loop
-add-i c = omega arith
-
-loop-less : tie.Need-loop-less Inv-loop μ-loop
-loop-less c = omega arith
 
 loop-again : tie.Need-loop-again Inv-loop μ-loop
 loop-again c = let l = c .before .before .before in counted-goes-on (l .before .before .args .text .now) (l .loop .count) (l .loop .i) (l .loop .inv) (c .before .before .loop-test .taken) (c .begins .ensures)
@@ -40,14 +28,5 @@ returns c = counted-ends _ _ _ (c .before .loop .inv) (c .loop-test .left)
 pub characters-spec : {M : Type 1} → statement M
 characters-spec =
     tie.close
-    (tie.spec
-    Inv-loop
-    μ-loop
-    loop-holds
-    shared-slice-read-begins
-    begins-requires
-    add-count
-    add-i
-    loop-less
-    loop-again
-    returns)
+    (tie.spec Inv-loop μ-loop loop-holds (λ c. omega arith) (search needs) add-count (λ c. omega arith)
+    (λ c. omega arith) loop-again returns)

@@ -15,15 +15,6 @@ Inv-loop text count left₀ i₀ left i = i + frontBytes left (drop i text) ≡ 
 abbrev μ-loop : tie.MeasureT-loop
 μ-loop text count left₀ i₀ left i = length text - i
 
-loop-holds : tie.Need-loop-holds Inv-loop μ-loop
-loop-holds c = omega arith
-
-shared-slice-read-begins : tie.Need-shared-slice-read-begins Inv-loop μ-loop
-shared-slice-read-begins c = omega arith
-
-begins-requires : tie.Need-begins-requires Inv-loop μ-loop
-begins-requires c κs = search needs
-
 returns : tie.Need-returns Inv-loop μ-loop
 returns c =
     let got = c .before in
@@ -31,12 +22,6 @@ returns c =
     let l = turn .before in
     let a = l .before .before .args in
     front-found (a .text .now) (a .count) (l .loop .left) (l .loop .i) (l .loop .inv) (turn .loop-test .taken) (got .begins .ensures) (c .if1 .taken)
-
-add-i : tie.Need-add-i Inv-loop μ-loop
-add-i c = omega arith
-
-loop-less : tie.Need-loop-less Inv-loop μ-loop
-loop-less c = omega arith
 
 loop-again : tie.Need-loop-again Inv-loop μ-loop
 loop-again c =
@@ -55,14 +40,5 @@ returns-2 c =
 pub front-spec : {M : Type 1} → statement M
 front-spec =
     tie.close
-    (tie.spec
-    Inv-loop
-    μ-loop
-    loop-holds
-    shared-slice-read-begins
-    begins-requires
-    returns
-    add-i
-    loop-less
-    loop-again
-    returns-2)
+    (tie.spec Inv-loop μ-loop (λ c. omega arith) (λ c. omega arith) (search needs) returns (λ c. omega arith)
+    (λ c. omega arith) loop-again returns-2)

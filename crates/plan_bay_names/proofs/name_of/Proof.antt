@@ -4,12 +4,9 @@ use borrow.Author.Needs.{needs}
 use Rattle.plan_bay_names.proofs.name_of.Statement.{statement}
 use Rattle.plan_bay_names.proofs.name_of.Tie as tie
 
-tile-name-requires : tie.Need-tile-name-requires
-tile-name-requires c κs = search needs
-
 returns : tie.Need-returns
 unfolding nameOf
 returns c = search needs
 
 pub name-of-spec : {M : Type 1} → statement M
-name-of-spec = tie.close (tie.spec tile-name-requires returns)
+name-of-spec = tie.close (tie.spec (search needs) returns)

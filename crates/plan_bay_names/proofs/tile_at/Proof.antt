@@ -5,17 +5,8 @@ use borrow.Author.Needs.{needs}
 use Rattle.plan_bay_names.proofs.tile_at.Statement.{statement}
 use Rattle.plan_bay_names.proofs.tile_at.Tie as tie
 
-mul-result : tie.Need-mul-result
-mul-result c = search needs
-
-shared-slice-read-result : tie.Need-shared-slice-read-result
-shared-slice-read-result c = search needs
-
-returns : tie.Need-returns
-returns c = search needs
-
 returns-2 : tie.Need-returns-2
 returns-2 c = sym (List·getD-eq-default (c .before .args .layout .now) 0 (c .if1 .left))
 
 pub tile-at-spec : {M : Type 1} → statement M
-tile-at-spec = tie.close (tie.spec mul-result shared-slice-read-result returns returns-2)
+tile-at-spec = tie.close (tie.spec (search needs) (search needs) (search needs) returns-2)

@@ -17,27 +17,6 @@ Inv-loop layout text offsets present numerals widest₀ i₀ widest i =
 abbrev μ-loop : tie.MeasureT-loop
 μ-loop layout text offsets present numerals widest₀ i₀ widest i = length layout - i
 
-loop-holds : tie.Need-loop-holds Inv-loop μ-loop
-loop-holds c = omega arith
-
-mul-bay-width : tie.Need-mul-bay-width Inv-loop μ-loop
-mul-bay-width c = omega arith
-
-shared-slice-read-bay-width : tie.Need-shared-slice-read-bay-width Inv-loop μ-loop
-shared-slice-read-bay-width c = omega arith
-
-bay-width-requires : tie.Need-bay-width-requires Inv-loop μ-loop
-bay-width-requires c κs = search needs
-
-larger-requires : tie.Need-larger-requires Inv-loop μ-loop
-larger-requires c κs = search needs
-
-add-i : tie.Need-add-i Inv-loop μ-loop
-add-i c = omega arith
-
-loop-less : tie.Need-loop-less Inv-loop μ-loop
-loop-less c = omega arith
-
 loop-again : tie.Need-loop-again Inv-loop μ-loop
 loop-again c =
     let turn = c .before .before .before in
@@ -52,15 +31,5 @@ returns c = widest-ends _ _ _ _ (c .before .loop .inv) (c .loop-test .left)
 pub widest-bay-spec : {M : Type 1} → statement M
 widest-bay-spec =
     tie.close
-    (tie.spec
-    Inv-loop
-    μ-loop
-    loop-holds
-    mul-bay-width
-    shared-slice-read-bay-width
-    bay-width-requires
-    larger-requires
-    add-i
-    loop-less
-    loop-again
-    returns)
+    (tie.spec Inv-loop μ-loop (λ c. omega arith) (λ c. omega arith) (λ c. omega arith) (search needs) (search needs)
+    (λ c. omega arith) (λ c. omega arith) loop-again returns)

@@ -3,11 +3,5 @@ use borrow.Author.Tests.{le-leb, lt-leb}
 use Rattle.plan_layout_svg.proofs.has_room.Statement.{statement}
 use Rattle.plan_layout_svg.proofs.has_room.Tie as tie
 
-returns : tie.Need-returns
-returns c = rw (le-leb _ _ (c .if1 .taken))
-
-returns-2 : tie.Need-returns-2
-returns-2 c = rw (lt-leb _ _ (c .if1 .left))
-
 pub has-room-spec : {M : Type 1} → statement M
-has-room-spec = tie.close (tie.spec returns returns-2)
+has-room-spec = tie.close (tie.spec (λ c. rw (le-leb _ _ (c .if1 .taken))) (λ c. rw (lt-leb _ _ (c .if1 .left))))

@@ -5,14 +5,8 @@ use borrow.Author.Needs.{needs}
 use Rattle.plan_layout_svg.proofs.mark_at.Statement.{statement}
 use Rattle.plan_layout_svg.proofs.mark_at.Tie as tie
 
-shared-slice-read-result : tie.Need-shared-slice-read-result
-shared-slice-read-result c = search needs
-
-returns : tie.Need-returns
-returns c = search needs
-
 returns-2 : tie.Need-returns-2
 returns-2 c = sym (List·getD-eq-default (c .before .args .marks .now) 0 (c .if1 .left))
 
 pub mark-at-spec : {M : Type 1} → statement M
-mark-at-spec = tie.close (tie.spec shared-slice-read-result returns returns-2)
+mark-at-spec = tie.close (tie.spec (search needs) (search needs) returns-2)

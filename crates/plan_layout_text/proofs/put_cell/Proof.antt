@@ -5,32 +5,14 @@ use borrow.Author.Needs.{needs}
 use Rattle.plan_layout_text.proofs.put_cell.Statement.{statement}
 use Rattle.plan_layout_text.proofs.put_cell.Tie as tie
 
-put-text-requires : tie.Need-put-text-requires
-put-text-requires c κs = search needs
-
-same-length : tie.Need-same-length
-same-length c = search needs
-
 returns : tie.Need-returns
 returns c =
     let first = c .before .before .before in
     let a = first .before .before .before .before .args in
     put-as (last-cell (a .width) (a .left) (a .shown .now) (c .if1 .taken)) (first .put-text .ensures)
 
-characters-requires : tie.Need-characters-requires
-characters-requires c κs = search needs
-
 put-spaces-requires : tie.Need-put-spaces-requires
 put-spaces-requires c κs = put-within (c .before .before .before .before .before .put-text .ensures)
-
-slice-aggregate-put-text : tie.Need-slice-aggregate-put-text
-slice-aggregate-put-text c = search needs
-
-put-text-requires-2 : tie.Need-put-text-requires-2
-put-text-requires-2 c κs = search needs
-
-same-length-2 : tie.Need-same-length-2
-same-length-2 c = search needs
 
 returns-2 : tie.Need-returns-2
 returns-2 c =
@@ -45,13 +27,5 @@ returns-2 c =
 pub put-cell-spec : {M : Type 1} → statement M
 put-cell-spec =
     tie.close
-    (tie.spec
-    put-text-requires
-    same-length
-    returns
-    characters-requires
-    put-spaces-requires
-    slice-aggregate-put-text
-    put-text-requires-2
-    same-length-2
-    returns-2)
+    (tie.spec (search needs) (search needs) returns (search needs) put-spaces-requires (search needs) (search needs)
+    (search needs) returns-2)

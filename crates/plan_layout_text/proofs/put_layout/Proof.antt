@@ -2,9 +2,9 @@
 use native.Mathlib.Omega.{arith}
 use lib.ListN.{drop}
 use Rattle.name_strands.specs.Names.{names}
-use Rattle.text_put.proofs.Putting.{put-as, Ending, ending-ends}
+use Rattle.text_put.proofs.Putting.{put-as, Ending, starts-anywhere, ending-ends}
 use Rattle.plan_layout_text.specs.Grid.{rowsText}
-use Rattle.plan_layout_text.proofs.Lines.{starts-anywhere, rows-go-on, rows-end}
+use Rattle.plan_layout_text.proofs.Lines.{rows-go-on, rows-end}
 use borrow.Author.Needs.{needs}
 use Rattle.plan_layout_text.proofs.put_layout.Statement.{statement}
 use Rattle.plan_layout_text.proofs.put_layout.Tie as tie
@@ -18,12 +18,6 @@ abbrev μ-loop : tie.MeasureT-loop
 μ-loop rows cols layout text offsets present numerals out₀ at width next₀ bay₀ left₀ out next bay left =
     left
 
-widest-bay-requires : tie.Need-widest-bay-requires Inv-loop μ-loop
-widest-bay-requires c κs = search needs
-
-least-requires : tie.Need-least-requires Inv-loop μ-loop
-least-requires c κs = search needs
-
 loop-holds : tie.Need-loop-holds Inv-loop μ-loop
 loop-holds c =
     let wide = c .before in
@@ -32,12 +26,6 @@ loop-holds c =
 
 put-row-requires : tie.Need-put-row-requires Inv-loop μ-loop
 put-row-requires c κs = c .before .before .loop .inv .within
-
-least-sum-requires : tie.Need-least-sum-requires Inv-loop μ-loop
-least-sum-requires c κs = search needs
-
-sub-left : tie.Need-sub-left Inv-loop μ-loop
-sub-left c = search needs
 
 loop-less : tie.Need-loop-less Inv-loop μ-loop
 loop-less c = omega (arith, c .before .before .before .before .before .loop-test .taken)
@@ -67,16 +55,5 @@ returns c =
 pub put-layout-spec : {M : Type 1} → statement M
 put-layout-spec =
     tie.close
-    (tie.spec
-    Inv-loop
-    μ-loop
-    widest-bay-requires
-    least-requires
-    loop-holds
-    put-row-requires
-    least-sum-requires
-    sub-left
-    loop-less
-    loop-again
-    same-length
-    returns)
+    (tie.spec Inv-loop μ-loop (search needs) (search needs) loop-holds put-row-requires (search needs)
+    (search needs) loop-less loop-again same-length returns)

@@ -4,9 +4,9 @@ use mathlib.Core.Path.{_∙_}
 use native.Mathlib.Omega.{arith}
 use lib.ListN.{drop}
 use Rattle.name_strands.specs.Names.{names}
-use Rattle.text_put.proofs.Putting.{put-long, Ending, ending-starts}
+use Rattle.text_put.proofs.Putting.{put-long, Ending, ending-starts, last-part}
 use Rattle.plan_layout_text.specs.Grid.{rowText}
-use Rattle.plan_layout_text.proofs.Lines.{row-goes-on, row-end, last-part}
+use Rattle.plan_layout_text.proofs.Lines.{row-goes-on, row-end}
 use borrow.Author.Needs.{needs}
 use Rattle.plan_layout_text.proofs.put_row.Statement.{statement}
 use Rattle.plan_layout_text.proofs.put_row.Tie as tie
@@ -26,18 +26,6 @@ loop-holds c =
     let a = start .args in
     ending-starts (rowText (names (a .text .now) (a .offsets .now) (a .present .now) (a .numerals .now)) (a .width) (drop (a .first) (a .layout .now)) (a .cols)) (start .pre)
 
-sub-left : tie.Need-sub-left Inv-loop μ-loop
-sub-left c = search needs
-
-tile-at-requires : tie.Need-tile-at-requires Inv-loop μ-loop
-tile-at-requires c κs = search needs
-
-put-bay-requires : tie.Need-put-bay-requires Inv-loop μ-loop
-put-bay-requires c κs = search needs
-
-least-sum-requires : tie.Need-least-sum-requires Inv-loop μ-loop
-least-sum-requires c κs = search needs
-
 loop-less : tie.Need-loop-less Inv-loop μ-loop
 loop-less c = omega (arith, c .before .before .before .before .before .before .loop-test .taken)
 
@@ -50,12 +38,6 @@ loop-again c =
     let a = l .before .before .before .before .before .before .before .args in
     row-goes-on (names (a .text .now) (a .offsets .now) (a .present .now) (a .numerals .now)) (a .width) (a .layout .now) (l .loop .bay) (l .loop .left) (l .loop .inv)
     (turn .loop-test .taken) (got .tile-at .ensures) (put .put-bay .ensures) (c .least-sum .ensures)
-
-slice-aggregate-put-text : tie.Need-slice-aggregate-put-text Inv-loop μ-loop
-slice-aggregate-put-text c = search needs
-
-put-text-requires : tie.Need-put-text-requires Inv-loop μ-loop
-put-text-requires c κs = search needs
 
 same-length : tie.Need-same-length Inv-loop μ-loop
 same-length c = let put = c .before .before in put-long (put .put-text .ensures) ∙ put .before .before .before .before .loop .inv .long
@@ -73,17 +55,5 @@ returns c =
 pub put-row-spec : {M : Type 1} → statement M
 put-row-spec =
     tie.close
-    (tie.spec
-    Inv-loop
-    μ-loop
-    loop-holds
-    sub-left
-    tile-at-requires
-    put-bay-requires
-    least-sum-requires
-    loop-less
-    loop-again
-    slice-aggregate-put-text
-    put-text-requires
-    same-length
-    returns)
+    (tie.spec Inv-loop μ-loop loop-holds (search needs) (search needs) (search needs) (search needs) loop-less
+    loop-again (search needs) (search needs) same-length returns)

@@ -9,9 +9,6 @@ returns : tie.Need-returns
 unfolding letterSize
 returns c = rw (lt-ltb _ _ (c .if1 .taken))
 
-div-result : tie.Need-div-result
-div-result c = search needs
-
 returns-2 : tie.Need-returns-2
 unfolding letterSize
 returns-2 c = rw (le-ltb _ _ (c .before .if1 .left), lt-ltb _ _ (c .if2 .taken))
@@ -21,4 +18,4 @@ unfolding letterSize
 returns-3 c = rw (le-ltb _ _ (c .before .if1 .left), le-ltb _ _ (c .if2 .left))
 
 pub letter-size-spec : {M : Type 1} → statement M
-letter-size-spec = tie.close (tie.spec returns div-result returns-2 returns-3)
+letter-size-spec = tie.close (tie.spec returns (search needs) returns-2 returns-3)

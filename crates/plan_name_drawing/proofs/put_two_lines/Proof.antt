@@ -7,20 +7,11 @@ use borrow.Author.Needs.{needs}
 use Rattle.plan_name_drawing.proofs.put_two_lines.Statement.{statement}
 use Rattle.plan_name_drawing.proofs.put_two_lines.Tie as tie
 
-letter-size-requires : tie.Need-letter-size-requires
-letter-size-requires c κs = search needs
-
-front-requires : tie.Need-front-requires
-front-requires c κs = search needs
-
 slice-aggregate-put-line : tie.Need-slice-aggregate-put-line
 slice-aggregate-put-line c =
     let found = c .before in
     let a = found .before .before .before .before .args in
     front-length (a .first) (a .text .now) (found .front .ensures)
-
-put-line-requires : tie.Need-put-line-requires
-put-line-requires c κs = search needs
 
 add-put-line : tie.Need-add-put-line
 add-put-line c = let sized = c .before .before .before .before .before .before in omega (arith, sized .letter-size .ensures, letters-fit (sized .before .before .before .args .first))
@@ -37,15 +28,6 @@ part-put-line-start c =
     let a = found .before .before .before .before .args in
     omega (arith, found .front .ensures, front-within (a .first) (a .text .now))
 
-part-put-line-end : tie.Need-part-put-line-end
-part-put-line-end c = search needs
-
-put-line-requires-2 : tie.Need-put-line-requires-2
-put-line-requires-2 c κs = search needs
-
-same-length : tie.Need-same-length
-same-length c = search needs
-
 returns : tie.Need-returns
 returns c =
     let put = c .before .before in
@@ -58,15 +40,5 @@ returns c =
 pub put-two-lines-spec : {M : Type 1} → statement M
 put-two-lines-spec =
     tie.close
-    (tie.spec
-    letter-size-requires
-    front-requires
-    slice-aggregate-put-line
-    put-line-requires
-    add-put-line
-    sub-put-line
-    part-put-line-start
-    part-put-line-end
-    put-line-requires-2
-    same-length
-    returns)
+    (tie.spec (search needs) (search needs) slice-aggregate-put-line (search needs) add-put-line sub-put-line
+    part-put-line-start (search needs) (search needs) (search needs) returns)

@@ -6,8 +6,5 @@ use Rattle.text_energy.proofs.is_below_zero.Tie as tie
 returns : tie.Need-returns
 returns c = rw (c .before .if1 .taken)
 
-returns-2 : tie.Need-returns-2
-returns-2 c = search needs
-
 pub is-below-zero-spec : {M : Type 1} → statement M
-is-below-zero-spec = tie.close (tie.spec returns returns-2)
+is-below-zero-spec = tie.close (tie.spec returns (λ c. search needs))

@@ -16,14 +16,10 @@ returns c = rw (differs-from-itself (c .before .args .energy) (rw (c .if1 .taken
 float-to-bits-of-bits : tie.Need-float-to-bits-of-bits
 float-to-bits-of-bits c = rw (no-nan (c .before .args .energy) (c .if1 .left)) tt
 
-of-bits-requires : tie.Need-of-bits-requires
-of-bits-requires c κs = search needs
-
 returns-2 : tie.Need-returns-2
 returns-2 c =
     let start = c .before .before in
     c .of-bits .ensures ∙ ap nearestHundredth (ofBits-toBits binary64 (start .args .energy) (rw (start .good .0 .1) tt))
 
 pub nearest-hundredth-spec : {M : Type 1} → statement M
-nearest-hundredth-spec =
-    tie.close (tie.spec returns float-to-bits-of-bits of-bits-requires returns-2)
+nearest-hundredth-spec = tie.close (tie.spec returns float-to-bits-of-bits (search needs) returns-2)

@@ -12,16 +12,10 @@ returns c = let bits = c .before .args .bits in pattern-large bits (bits % 92233
 returns-2 : tie.Need-returns-2
 returns-2 c = let bits = c .before .before .args .bits in pattern-tiny bits (bits % 9223372036854775808 / 4503599627370496) refl (c .if2 .taken)
 
-add-scaled : tie.Need-add-scaled
-add-scaled c = search needs
-
-scaled-requires : tie.Need-scaled-requires
-scaled-requires c κs = search needs
-
 returns-3 : tie.Need-returns-3
 returns-3 c =
     let bits = c .before .before .before .args .bits in
     rw (c .scaled .ensures) (pattern-normal bits (bits % 9223372036854775808 / 4503599627370496) refl (c .before .if2 .left) (c .before .before .if1 .left))
 
 pub of-bits-spec : {M : Type 1} → statement M
-of-bits-spec = tie.close (tie.spec returns returns-2 add-scaled scaled-requires returns-3)
+of-bits-spec = tie.close (tie.spec returns returns-2 (search needs) (search needs) returns-3)

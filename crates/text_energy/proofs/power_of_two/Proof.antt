@@ -7,11 +7,8 @@ use borrow.Author.Needs.{needs}
 use Rattle.text_energy.proofs.power_of_two.Statement.{statement}
 use Rattle.text_energy.proofs.power_of_two.Tie as tie
 
-shl-result : tie.Need-shl-result
-shl-result c = search needs
-
 returns : tie.Need-returns
 returns c = ap (λ (n : ℕ). n % 2 ^ 64) (one-mul (2 ^ c .args .k)) ∙ mod-eq-of-lt (pow-lt (c .pre))
 
 pub power-of-two-spec : {M : Type 1} → statement M
-power-of-two-spec = tie.close (tie.spec shl-result returns)
+power-of-two-spec = tie.close (tie.spec (search needs) returns)

@@ -7,15 +7,6 @@ use borrow.Author.Needs.{needs}
 use Rattle.text_energy.proofs.put_energy.Statement.{statement}
 use Rattle.text_energy.proofs.put_energy.Tie as tie
 
-nearest-hundredth-requires : tie.Need-nearest-hundredth-requires
-nearest-hundredth-requires c κs = search needs
-
-put-float-requires : tie.Need-put-float-requires
-put-float-requires c κs = search needs
-
-same-length : tie.Need-same-length
-same-length c = search needs
-
 returns : tie.Need-returns
 returns c =
     let put = c .before .before in
@@ -23,21 +14,6 @@ returns c =
     let got = way .before .before in
     let a = got .before .before .args in
     put-as (without-hundredths (a .energy) (got .nearest-hundredth .result) (got .nearest-hundredth .ensures) (not-true _ (way .if1 .taken))) (put .put-float .ensures)
-
-is-below-zero-requires : tie.Need-is-below-zero-requires
-is-below-zero-requires c κs = search needs
-
-slice-aggregate-put-text : tie.Need-slice-aggregate-put-text
-slice-aggregate-put-text c = search needs
-
-put-text-requires : tie.Need-put-text-requires
-put-text-requires c κs = search needs
-
-put-pointed-requires : tie.Need-put-pointed-requires
-put-pointed-requires c κs = search needs
-
-same-length-2 : tie.Need-same-length-2
-same-length-2 c = search needs
 
 returns-2 : tie.Need-returns-2
 returns-2 c =
@@ -49,12 +25,6 @@ returns-2 c =
     let h = got .nearest-hundredth in
     put-as (with-a-minus (c .before .before .before .before .before .before .before .before .before .before .before .before .before .before .before .args .energy) (h .result) (h .ensures) (not-false _ (c .before .before .before .before .before .before .before .before .before .before .before .if1 .left)) (sym (asked .is-below-zero .ensures) ∙ way .if2 .taken))
     (then-put (sign .put-text .ensures) (put .put-pointed .ensures))
-
-put-pointed-requires-2 : tie.Need-put-pointed-requires-2
-put-pointed-requires-2 c κs = search needs
-
-same-length-3 : tie.Need-same-length-3
-same-length-3 c = search needs
 
 returns-3 : tie.Need-returns-3
 returns-3 c =
@@ -68,17 +38,5 @@ returns-3 c =
 pub put-energy-spec : {M : Type 1} → statement M
 put-energy-spec =
     tie.close
-    (tie.spec
-    nearest-hundredth-requires
-    put-float-requires
-    same-length
-    returns
-    is-below-zero-requires
-    slice-aggregate-put-text
-    put-text-requires
-    put-pointed-requires
-    same-length-2
-    returns-2
-    put-pointed-requires-2
-    same-length-3
-    returns-3)
+    (tie.spec (search needs) (search needs) (search needs) returns (search needs) (search needs) (search needs)
+    (search needs) (search needs) returns-2 (search needs) (search needs) returns-3)

@@ -4,24 +4,6 @@ use borrow.Author.Needs.{needs}
 use Rattle.text_energy.proofs.put_pointed.Statement.{statement}
 use Rattle.text_energy.proofs.put_pointed.Tie as tie
 
-put-number-requires : tie.Need-put-number-requires
-put-number-requires c κs = search needs
-
-glyph-requires : tie.Need-glyph-requires
-glyph-requires c κs = search needs
-
-glyph-requires-2 : tie.Need-glyph-requires-2
-glyph-requires-2 c κs = search needs
-
-slice-aggregate-put-text : tie.Need-slice-aggregate-put-text
-slice-aggregate-put-text c = search needs
-
-put-text-requires : tie.Need-put-text-requires
-put-text-requires c κs = search needs
-
-same-length : tie.Need-same-length
-same-length c = search needs
-
 returns : tie.Need-returns
 returns c =
     let put = c .before .before in
@@ -34,11 +16,4 @@ returns c =
 pub put-pointed-spec : {M : Type 1} → statement M
 put-pointed-spec =
     tie.close
-    (tie.spec
-    put-number-requires
-    glyph-requires
-    glyph-requires-2
-    slice-aggregate-put-text
-    put-text-requires
-    same-length
-    returns)
+    (tie.spec (search needs) (search needs) (search needs) (search needs) (search needs) (search needs) returns)

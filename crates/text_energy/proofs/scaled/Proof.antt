@@ -10,15 +10,6 @@ use Rattle.text_energy.proofs.scaled.Tie as tie
 returns : tie.Need-returns
 returns c = let a = c .before .args in shifted-out (a .digits) (1075 - a .x) (c .before .pre .0) (omega (arith, c .if1 .taken))
 
-sub-power-of-two : tie.Need-sub-power-of-two
-sub-power-of-two c = search needs
-
-power-of-two-requires : tie.Need-power-of-two-requires
-power-of-two-requires c κs = search needs
-
-mul-result : tie.Need-mul-result
-mul-result c = search needs
-
 add-result : tie.Need-add-result
 add-result c =
     let start = c .before .before in
@@ -48,12 +39,4 @@ returns-2 c = rw (c .power-of-two .ensures)
 pub scaled-spec : {M : Type 1} → statement M
 scaled-spec =
     tie.close
-    (tie.spec
-    returns
-    sub-power-of-two
-    power-of-two-requires
-    mul-result
-    add-result
-    mul-result-2
-    div-result
-    returns-2)
+    (tie.spec returns (search needs) (search needs) (search needs) add-result mul-result-2 div-result returns-2)

@@ -12,27 +12,6 @@ use borrow.Author.Needs.{needs}
 use Rattle.text_put.proofs.put_signed.Statement.{statement}
 use Rattle.text_put.proofs.put_signed.Tie as tie
 
-slice-aggregate-put-text : tie.Need-slice-aggregate-put-text
-slice-aggregate-put-text c = search needs
-
-put-text-requires : tie.Need-put-text-requires
-put-text-requires c κs = search needs
-
-size-requires : tie.Need-size-requires
-size-requires c κs = search needs
-
-put-number-requires : tie.Need-put-number-requires
-put-number-requires c κs = search needs
-
-size-requires-2 : tie.Need-size-requires-2
-size-requires-2 c κs = search needs
-
-put-number-requires-2 : tie.Need-put-number-requires-2
-put-number-requires-2 c κs = search needs
-
-same-length : tie.Need-same-length
-same-length c = search needs
-
 returns : tie.Need-returns
 returns c =
     let put = c .before .before in
@@ -44,9 +23,6 @@ returns c =
     let first = sign .put-text in
     let text = ap (λ (k : ℕ). (45 ∷ []) ++ numberText k) (size .size .ensures) ∙ text-down (toZ w32 (ofZ w32 (a .n))) (way .if1 .taken) ∙ ap signedText (toZ-ofZ (start .fits .n)) in
     put-as text (then-put (first .ensures) (put .put-number .ensures))
-
-same-length-2 : tie.Need-same-length-2
-same-length-2 c = search needs
 
 returns-2 : tie.Need-returns-2
 returns-2 c =
@@ -61,14 +37,5 @@ returns-2 c =
 pub put-signed-spec : {M : Type 1} → statement M
 put-signed-spec =
     tie.close
-    (tie.spec
-    slice-aggregate-put-text
-    put-text-requires
-    size-requires
-    put-number-requires
-    size-requires-2
-    put-number-requires-2
-    same-length
-    returns
-    same-length-2
-    returns-2)
+    (tie.spec (search needs) (search needs) (search needs) (search needs) (search needs) (search needs)
+    (search needs) returns (search needs) returns-2)

@@ -17,30 +17,15 @@ returns c =
     let a = c .before .before .before .args in
     record { place = place-nowhere (a .out .now) (a .at) (a .text .now) (c .if1 .taken); slice = put-nowhere (a .out .now) (a .at) (a .text .now) (c .if1 .taken) }
 
-sub-least : tie.Need-sub-least Inv-loop μ-loop
-sub-least c = search needs
-
-least-requires : tie.Need-least-requires Inv-loop μ-loop
-least-requires c κs = search needs
-
 loop-holds : tie.Need-loop-holds Inv-loop μ-loop
 loop-holds c =
     let a = c .before .before .before .before .args in
     copying-starts (a .out .now) (a .at) (a .text .now) (c .least .result) (c .least .ensures) (c .before .if1 .left)
 
-shared-slice-read-out : tie.Need-shared-slice-read-out Inv-loop μ-loop
-shared-slice-read-out c = search needs
-
-add-out : tie.Need-add-out Inv-loop μ-loop
-add-out c = search needs
-
 slice-write-out : tie.Need-slice-write-out Inv-loop μ-loop
 slice-write-out c =
     let l = c .before .before in
     omega (arith, l .loop .inv .long, l .before .least .ensures, c .before .loop-test .taken)
-
-add-i : tie.Need-add-i Inv-loop μ-loop
-add-i c = search needs
 
 loop-less : tie.Need-loop-less Inv-loop μ-loop
 loop-less c = omega (arith, c .before .loop-test .taken)
@@ -52,9 +37,6 @@ loop-again c =
     let a = room .before .before .before .before .args in
     copying-goes-on (a .out .now) (a .at) (a .text .now) (room .least .result) (room .least .ensures) (room .before .if1 .left) (l .loop .out) (l .loop .i) (l .loop .inv)
     (c .before .loop-test .taken)
-
-add-result : tie.Need-add-result Inv-loop μ-loop
-add-result c = search needs
 
 same-length : tie.Need-same-length Inv-loop μ-loop
 same-length c = c .before .loop .inv .long
@@ -74,19 +56,5 @@ returns-2 c =
 pub put-text-spec : {M : Type 1} → statement M
 put-text-spec =
     tie.close
-    (tie.spec
-    Inv-loop
-    μ-loop
-    returns
-    sub-least
-    least-requires
-    loop-holds
-    shared-slice-read-out
-    add-out
-    slice-write-out
-    add-i
-    loop-less
-    loop-again
-    add-result
-    same-length
-    returns-2)
+    (tie.spec Inv-loop μ-loop returns (search needs) (search needs) loop-holds (search needs) (search needs)
+    slice-write-out (search needs) loop-less loop-again (search needs) same-length returns-2)
