@@ -3,7 +3,7 @@ use Prim.Native.Nat.{ℕ}
 use mathlib.Core.Bool.{cond}
 use mathlib.Core.List.{List, [], _++_}
 use lib.Dec.{eqb}
-use Rattle.name_strands.specs.Names.{Names}
+use Rattle.name_strands.specs.Names.{StrandNames as Names}
 use Rattle.text_put.specs.Puts.{numberText}
 use Rattle.plan_bay_names.specs.Bays.{nameOf}
 use Rattle.plan_xml_text.specs.Words.{bytes}

@@ -2,7 +2,7 @@
 //
 // Each function puts its part at the place `at`, leaves the rest of the text as it is, and answers the next place.
 ghost use Rattle.text_put.specs.Puts.{Put};
-ghost use Rattle.name_strands.specs.Names.{names};
+ghost use Rattle.name_strands.specs.Names.{strandNames as names};
 ghost use Rattle.plan_bay_drawing.specs.Squares.{place, filling, border, square, tileLabel, bayDrawing};
 use plan_bay_names::name_of;
 use plan_name_drawing::put_label;

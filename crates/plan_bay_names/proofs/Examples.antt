@@ -3,7 +3,7 @@ use mathlib.Core.List.{[], _∷_}
 use mathlib.Core.Path.{_≡_, refl}
 use Rattle.text_entries.specs.Entries.{offsetsFrom, areFlags, sameBytes}
 use Rattle.name_strands.specs.Numerals.{numeralsFrom, numeralsText}
-use Rattle.name_strands.specs.Names.{Names, names, namesSized, nullFirst, namesRead}
+use Rattle.name_strands.specs.Names.{StrandNames as Names, strandNames as names, namesSized, nullFirst, namesRead}
 use Rattle.plan_bay_names.specs.Bays.{nameOf, bayText, begun, characterCount, frontBytes, widestBay}
 
 -- three strands: `null`, one without a name, and `aé`

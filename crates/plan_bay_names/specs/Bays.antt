@@ -4,7 +4,7 @@ use mathlib.Core.Bool.{cond}
 use mathlib.Core.List.{List, [], _∷_}
 use lib.Dec.{eqb, ltb}
 use lib.ListN.{length}
-use Rattle.name_strands.specs.Names.{Names}
+use Rattle.name_strands.specs.Names.{StrandNames as Names}
 use Rattle.name_shown.specs.Shown.{bytesOf}
 use Rattle.name_tiles.specs.Tiles.{tilePart}
 

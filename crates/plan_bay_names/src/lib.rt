@@ -2,7 +2,7 @@
 ghost use mathlib.Core.Path.{_≡_};
 ghost use Prim.Native.Nat.{max};
 ghost use lib.ListN.{getD};
-ghost use Rattle.name_strands.specs.Names.{names};
+ghost use Rattle.name_strands.specs.Names.{strandNames as names};
 ghost use Rattle.plan_bay_names.specs.Bays.{nameOf, bayText, begun, characterCount, frontBytes, widestBay};
 
 // The name that is shown for a tile, there being as many strands as presence bytes.

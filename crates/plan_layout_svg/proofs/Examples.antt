@@ -5,7 +5,7 @@ use mathlib.Core.Bool.{true}
 use lib.Ieee.{binary64, round}
 use Rattle.text_entries.specs.Entries.{offsetsFrom, areFlags, sameBytes}
 use Rattle.name_strands.specs.Numerals.{numeralsFrom, numeralsText}
-use Rattle.name_strands.specs.Names.{Names, names, namesSized, nullFirst, namesRead}
+use Rattle.name_strands.specs.Names.{StrandNames as Names, strandNames as names, namesSized, nullFirst, namesRead}
 use Rattle.text_put.specs.Puts.{decimal, numberText}
 use Rattle.text_energy.specs.Hundredths.{hundredths, isSmall, isNegative, energyText}
 use Rattle.plan_bay_names.specs.Bays.{nameOf, begun, characterCount}

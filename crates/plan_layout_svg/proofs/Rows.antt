@@ -6,7 +6,7 @@ use native.Mathlib.Nat.{add-zero, add-assoc}
 use native.Mathlib.Omega.{arith}
 use lib.ListN.{length, getD, drop}
 use lib.Seq.{drop-drop, getD-drop}
-use Rattle.name_strands.specs.Names.{Names}
+use Rattle.name_strands.specs.Names.{StrandNames as Names}
 use Rattle.text_put.specs.Puts.{Put}
 use Rattle.text_put.proofs.Putting.{Ending, ending-starts, ending-goes-on, ending-ends}
 use Rattle.plan_bay_drawing.specs.Squares.{bayDrawing}

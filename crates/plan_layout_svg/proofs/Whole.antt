@@ -7,7 +7,7 @@ use borrow.Author.Tests.{leb-true, not-true, not-false}
 use lib.Dec.{leb}
 use lib.Ieee.{Float}
 use Rattle.text_entries.proofs.Same.{both}
-use Rattle.name_strands.specs.Names.{Names}
+use Rattle.name_strands.specs.Names.{StrandNames as Names}
 use Rattle.plan_drawing_frame.specs.Frame.{head, foot}
 use Rattle.plan_layout_svg.specs.Drawing.{rowsDrawing, pixelsAcross, drawing, svgText}
 

@@ -5,7 +5,7 @@ use mathlib.Core.List.{List, [], _++_}
 use lib.Dec.{leb}
 use lib.Ieee.{Float}
 use lib.ListN.{getD, drop}
-use Rattle.name_strands.specs.Names.{Names}
+use Rattle.name_strands.specs.Names.{StrandNames as Names}
 use Rattle.plan_drawing_frame.specs.Frame.{head, foot}
 use Rattle.plan_bay_drawing.specs.Squares.{bayDrawing}
 

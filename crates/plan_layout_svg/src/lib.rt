@@ -7,7 +7,7 @@ ghost use Prim.Native.Nat.{_+_, _*_, _≤_};
 ghost use lib.Dec.{leb};
 ghost use lib.ListN.{length, getD, drop};
 ghost use Rattle.text_put.specs.Puts.{Put};
-ghost use Rattle.name_strands.specs.Names.{names};
+ghost use Rattle.name_strands.specs.Names.{strandNames as names};
 ghost use Rattle.plan_layout_svg.specs.Drawing.{rowDrawing, rowsDrawing, pixelsAcross, svgText};
 use plan_bay_drawing::put_bay;
 use plan_bay_names::tile_at;

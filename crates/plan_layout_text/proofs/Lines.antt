@@ -10,7 +10,7 @@ use borrow.Author.Tests.{leb-true, leb-false}
 use lib.Dec.{leb}
 use lib.ListN.{length, getD, drop, drop-of-length-le}
 use lib.Seq.{drop-drop, getD-drop}
-use Rattle.name_strands.specs.Names.{Names}
+use Rattle.name_strands.specs.Names.{StrandNames as Names}
 use Rattle.text_put.specs.Puts.{written, Put}
 use Rattle.text_put.proofs.Putting.{put-nowhere, Ending, ending-goes-on, ending-ends}
 use Rattle.plan_bay_names.specs.Bays.{bayText, characterCount}

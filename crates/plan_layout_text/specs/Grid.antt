@@ -2,7 +2,7 @@
 use Prim.Native.Nat.{ℕ, zero, suc, _-_}
 use mathlib.Core.List.{List, [], _∷_, _++_}
 use lib.ListN.{getD, drop}
-use Rattle.name_strands.specs.Names.{Names}
+use Rattle.name_strands.specs.Names.{StrandNames as Names}
 use Rattle.plan_bay_names.specs.Bays.{bayText, characterCount, widestBay}
 
 -- so many spaces

@@ -5,7 +5,7 @@ ghost use mathlib.Core.Path.{_≡_};
 ghost use Prim.Native.Nat.{_+_, _-_, _≤_, min};
 ghost use lib.ListN.{length, drop};
 ghost use Rattle.text_put.specs.Puts.{Put};
-ghost use Rattle.name_strands.specs.Names.{names};
+ghost use Rattle.name_strands.specs.Names.{strandNames as names};
 ghost use Rattle.plan_bay_names.specs.Bays.{bayText};
 ghost use Rattle.plan_layout_text.specs.Grid.{spaces, cellText, rowText, layoutText};
 use plan_bay_names::characters;

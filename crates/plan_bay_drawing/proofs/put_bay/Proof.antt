@@ -2,7 +2,7 @@
 use mathlib.Core.List.{[], _∷_}
 use mathlib.Core.Path.{_≡_, refl}
 use Rattle.text_put.proofs.Putting.{put-as, then-put}
-use Rattle.name_strands.specs.Names.{names}
+use Rattle.name_strands.specs.Names.{strandNames as names}
 use Rattle.plan_xml_text.specs.Words.{bytes}
 use Rattle.plan_bay_drawing.specs.Squares.{tileLabel}
 use borrow.Author.Needs.{needs}

@@ -3,7 +3,7 @@ use Prim.Native.Nat.{_-_, max}
 use mathlib.Core.Path.{_≡_}
 use native.Mathlib.Omega.{arith}
 use lib.ListN.{length, drop}
-use Rattle.name_strands.specs.Names.{names}
+use Rattle.name_strands.specs.Names.{strandNames as names}
 use Rattle.plan_bay_names.specs.Bays.{widestBay}
 use Rattle.plan_bay_names.proofs.Counting.{widest-goes-on, widest-ends}
 use borrow.Author.Needs.{needs}

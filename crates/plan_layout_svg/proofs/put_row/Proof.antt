@@ -2,7 +2,7 @@
 use Prim.Native.Nat.{_-_}
 use mathlib.Core.Path.{refl}
 use native.Mathlib.Omega.{arith}
-use Rattle.name_strands.specs.Names.{names}
+use Rattle.name_strands.specs.Names.{strandNames as names}
 use Rattle.plan_layout_svg.proofs.Rows.{Row, row-starts, row-goes-on, row-ends}
 use borrow.Author.Needs.{needs}
 use Rattle.plan_layout_svg.proofs.put_row.Statement.{statement}

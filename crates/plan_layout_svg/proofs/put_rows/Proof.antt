@@ -1,7 +1,7 @@
 -- `plan_layout_svg::put_rows` meets its contract: the invariant is that the rows that are left end the grid. Assumes nothing.
 use Prim.Native.Nat.{_-_}
 use native.Mathlib.Omega.{arith}
-use Rattle.name_strands.specs.Names.{names}
+use Rattle.name_strands.specs.Names.{strandNames as names}
 use Rattle.plan_layout_svg.proofs.Rows.{Grid, grid-starts, grid-goes-on, grid-ends}
 use Rattle.plan_layout_svg.proofs.put_rows.Statement.{statement}
 use Rattle.plan_layout_svg.proofs.put_rows.Tie as tie

@@ -1,6 +1,6 @@
 -- `plan_layout_svg::put_svg` meets its contract. Assumes nothing.
 use native.Mathlib.Omega.{arith}
-use Rattle.name_strands.specs.Names.{names}
+use Rattle.name_strands.specs.Names.{strandNames as names}
 use Rattle.text_put.proofs.Putting.{put-as, then-put, put-within}
 use Rattle.plan_layout_svg.specs.Drawing.{rowsDrawing}
 use Rattle.plan_layout_svg.proofs.Whole.{small, drawn, not-drawn}

@@ -1,7 +1,7 @@
 -- `plan_layout_text::put_layout` meets its contract: the invariant is that the rows that are left end the grid. Assumes nothing.
 use native.Mathlib.Omega.{arith}
 use lib.ListN.{drop}
-use Rattle.name_strands.specs.Names.{names}
+use Rattle.name_strands.specs.Names.{strandNames as names}
 use Rattle.text_put.proofs.Putting.{put-as, Ending, ending-ends}
 use Rattle.plan_layout_text.specs.Grid.{rowsText}
 use Rattle.plan_layout_text.proofs.Lines.{starts-anywhere, rows-go-on, rows-end}

@@ -3,7 +3,7 @@ use mathlib.Core.List.{[], _∷_}
 use mathlib.Core.Path.{_∙_}
 use native.Mathlib.Omega.{arith}
 use lib.ListN.{drop}
-use Rattle.name_strands.specs.Names.{names}
+use Rattle.name_strands.specs.Names.{strandNames as names}
 use Rattle.text_put.proofs.Putting.{put-long, Ending, ending-starts}
 use Rattle.plan_layout_text.specs.Grid.{rowText}
 use Rattle.plan_layout_text.proofs.Lines.{row-goes-on, row-end, last-part}
