@@ -1,2 +1,1 @@
-pub mod Lists
-pub mod Found
+pub mod Within

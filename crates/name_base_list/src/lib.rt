@@ -3,8 +3,10 @@ ghost use mathlib.Core.Path.{_≡_};
 ghost use mathlib.Core.Bool.{true};
 ghost use Prim.Native.Nat.{_+_, _≤_};
 ghost use lib.ListN.{length};
-ghost use Rattle.name_base_list.specs.Bases.{basesFit, findBase, glueOf};
+ghost use Rattle.units.specs.Limits.{mostBases};
+ghost use Rattle.name_base_list.specs.Bases.{basesFit, findBase, baseNumber, glueOf, Searchable};
 use name_stars::is_from;
+use name_stars::self_and_inverse;
 
 // Whether the first `count` bases lie within a text of this length.
 pub fn bases_fit(end: usize, bases: &[usize], count: usize) -> bool
@@ -27,7 +29,7 @@ pub fn bases_fit(end: usize, bases: &[usize], count: usize) -> bool
 }
 
 // The first base of this name, or `count` where there is none.
-pub fn find_base(text: &[u8], bases: &[usize], count: usize, name: &[u8]) -> usize
+fn find_base(text: &[u8], bases: &[usize], count: usize, name: &[u8]) -> usize
     requires { ⌜ count + count ≤ length (now bases) ⌝ }
     requires { ⌜ basesFit (length (now text)) (now bases) count ≡ true ⌝ }
     ensures { λ r. ⌜ (r ≡ findBase (now (text .entry)) (now (bases .entry)) count (now (name .entry))) × (r ≤ count) ⌝ }
@@ -44,9 +46,17 @@ pub fn find_base(text: &[u8], bases: &[usize], count: usize, name: &[u8]) -> usi
     j
 }
 
+// The number of a name's base, or `count` where it is not in the list.
+pub fn base_number(text: &[u8], bases: &[usize], count: usize, name: &[u8]) -> usize
+    requires { ⌜ Searchable (now text) (now bases) count ⌝ }
+    ensures { λ r. ⌜ (r ≡ baseNumber (now (text .entry)) (now (bases .entry)) count (now (name .entry))) × (r ≤ count) ⌝ }
+{
+    find_base(text, bases, count, self_and_inverse(name))
+}
+
 // The glue of a name whose base is base j: 2j + 1 for the base, 2j + 2 for its inverse.
 pub fn glue_number(j: usize, name: &[u8]) -> u32
-    requires { ⌜ j ≤ 127 ⌝ }
+    requires { ⌜ j ≤ mostBases ⌝ }
     ensures { λ r. ⌜ r ≡ glueOf j (now (name .entry)) ⌝ }
 {
     let base = (j as u32) * 2 + 1;

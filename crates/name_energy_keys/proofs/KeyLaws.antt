@@ -4,33 +4,33 @@ use mathlib.Core.Path.{_≡_, refl, sym, ap, _∙_}
 use mathlib.Core.Bool.{not}
 use mathlib.Core.List.{List, []}
 use lib.Ieee.{Float}
-use borrow.Author.Tests.{not-false}
 use Rattle.units.specs.declared.Refusal.{Refusal}
 use Rattle.units.specs.declared.Check.{Check}
 use Rattle.units.specs.declared.Check.the-variants.{Passed, Refused}
 use Rattle.units.specs.Refusals.{passes, check, ifPasses, Prints}
-use Rattle.units.proofs.Verdicts.{Tabled, tabled-if, tabled-then, printed, refused-keeps, no-fault, first-passes, rest-passes}
+use Rattle.units.proofs.Verdicts.{Tabled, tabled-if, tabled-then, printed, refused-keeps, first-passes, rest-passes}
+use Rattle.text_entries.proofs.Tested.{no-fault-found}
 use Rattle.name_key_values.specs.Values.{Values}
-use Rattle.name_key_refusals.specs.Refusals.{valuesVerdict}
-use Rattle.name_key_refusals.proofs.RefusalLaws.{values-tabled}
-use Rattle.name_keys.specs.Names.{Names}
-use Rattle.name_keys_lent.specs.Lent.{sizesFit, sizesVerdict, formsFit, formsVerdict, lentVerdict, Lent}
+use Rattle.name_key_values.specs.Refusals.{valuesVerdict}
+use Rattle.name_key_values.proofs.RefusalLaws.{values-tabled}
+use Rattle.name_keys.specs.Names.{KeyNames}
+use Rattle.name_keys_lent.specs.Lent.{keysSized, keysSizes, keysRead, keysReading, lentVerdict, Lent}
 use Rattle.name_energy_keys.specs.Keys.{keysVerdict}
 
-module _ (n : Names) (v : Values) (deltaG entropy : ℕ) where
+module _ (n : KeyNames) (v : Values) (deltaG entropy : ℕ) where
   keys-tabled : Tabled (keysVerdict n v deltaG entropy)
   keys-tabled =
       tabled-then (lentVerdict n v deltaG entropy) (valuesVerdict v)
-      (tabled-then (sizesVerdict n v deltaG entropy) (formsVerdict n v)
-      (tabled-if (not (sizesFit n v deltaG entropy)) 1 [] refl) (tabled-if (not (formsFit n v)) 17 [] refl))
+      (tabled-then (keysSizes n v deltaG entropy) (keysReading n v)
+      (tabled-if (not (keysSized n v deltaG entropy)) 1 [] refl) (tabled-if (not (keysRead n (v .kinds) (v .sequences) (v .sequenceOffsets))) 17 [] refl))
       (values-tabled v)
 
-  -- what is lent and passed has its sizes and forms
+  -- what is lent and passed has its sizes and can be read
   pub lent-passed : lentVerdict n v deltaG entropy ≡ passes → Lent n v deltaG entropy
   lent-passed e =
       record {
-        sizes = not-false _ (no-fault (not (sizesFit n v deltaG entropy)) 1 [] (first-passes (sizesVerdict n v deltaG entropy) (formsVerdict n v) e));
-        forms = not-false _ (no-fault (not (formsFit n v)) 17 [] (rest-passes (sizesVerdict n v deltaG entropy) (formsVerdict n v) e));
+        sizes = no-fault-found _ 1 [] (first-passes (keysSizes n v deltaG entropy) (keysReading n v) e);
+        reading = no-fault-found _ 17 [] (rest-passes (keysSizes n v deltaG entropy) (keysReading n v) e);
       }
 
   -- What the call answers and leaves: a refusal keeps both matrices, and where all passes they are the new ones.

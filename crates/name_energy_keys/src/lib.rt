@@ -3,11 +3,11 @@ ghost use mathlib.Core.Path.{_≡_};
 ghost use lib.ListN.{length};
 ghost use Rattle.units.specs.Refusals.{check, ifPasses, Prints};
 ghost use Rattle.name_key_values.specs.Values.{values};
-ghost use Rattle.name_keys.specs.Names.{names};
+ghost use Rattle.name_keys.specs.Names.{keyNames};
 ghost use Rattle.name_key_matrices.specs.Matrices.{deltaG, deltaS};
 ghost use Rattle.name_energy_keys.specs.Keys.{keysVerdict};
 use name_key_matrices::set_keys;
-use name_key_refusals::check_values;
+use name_key_values::check_values;
 use name_keys_lent::check_lent;
 use units::Check;
 
@@ -26,10 +26,18 @@ pub fn energy_keys(
     delta_g: &mut [f64],
     entropy: &mut [f64],
 ) -> Check
-    ensures refusal { λ r. ⌜ Prints r (keysVerdict (names (now (text .entry)) (now (offsets .entry)) (now (paired .entry)) (now (bases .entry)) count) (values (now (kinds .entry)) (now (numbers .entry)) (now (sequences .entry)) (now («sequence_offsets» .entry))) (length (now («delta_g» .entry))) (length (now (entropy .entry)))) ⌝ }
-    ensures answer { λ r. ⌜ r ≡ check (keysVerdict (names (now (text .entry)) (now (offsets .entry)) (now (paired .entry)) (now (bases .entry)) count) (values (now (kinds .entry)) (now (numbers .entry)) (now (sequences .entry)) (now («sequence_offsets» .entry))) (length (now («delta_g» .entry))) (length (now (entropy .entry)))) ⌝ }
-    ensures energies { λ _. ⌜ now («delta_g» .exit) ≡ ifPasses (keysVerdict (names (now (text .entry)) (now (offsets .entry)) (now (paired .entry)) (now (bases .entry)) count) (values (now (kinds .entry)) (now (numbers .entry)) (now (sequences .entry)) (now («sequence_offsets» .entry))) (length (now («delta_g» .entry))) (length (now (entropy .entry)))) (deltaG (names (now (text .entry)) (now (offsets .entry)) (now (paired .entry)) (now (bases .entry)) count) (values (now (kinds .entry)) (now (numbers .entry)) (now (sequences .entry)) (now («sequence_offsets» .entry)))) (now («delta_g» .entry)) ⌝ }
-    ensures entropies { λ _. ⌜ now (entropy .exit) ≡ ifPasses (keysVerdict (names (now (text .entry)) (now (offsets .entry)) (now (paired .entry)) (now (bases .entry)) count) (values (now (kinds .entry)) (now (numbers .entry)) (now (sequences .entry)) (now («sequence_offsets» .entry))) (length (now («delta_g» .entry))) (length (now (entropy .entry)))) (deltaS (names (now (text .entry)) (now (offsets .entry)) (now (paired .entry)) (now (bases .entry)) count) (values (now (kinds .entry)) (now (numbers .entry)) (now (sequences .entry)) (now («sequence_offsets» .entry)))) (now (entropy .entry)) ⌝ }
+    ensures refusal { λ r. let n = keyNames (now (text .entry)) (now (offsets .entry)) (now (paired .entry)) (now (bases .entry)) count in
+        let v = values (now (kinds .entry)) (now (numbers .entry)) (now (sequences .entry)) (now («sequence_offsets» .entry)) in
+        ⌜ Prints r (keysVerdict n v (length (now («delta_g» .entry))) (length (now (entropy .entry)))) ⌝ }
+    ensures answer { λ r. let n = keyNames (now (text .entry)) (now (offsets .entry)) (now (paired .entry)) (now (bases .entry)) count in
+        let v = values (now (kinds .entry)) (now (numbers .entry)) (now (sequences .entry)) (now («sequence_offsets» .entry)) in
+        ⌜ r ≡ check (keysVerdict n v (length (now («delta_g» .entry))) (length (now (entropy .entry)))) ⌝ }
+    ensures energies { λ _. let n = keyNames (now (text .entry)) (now (offsets .entry)) (now (paired .entry)) (now (bases .entry)) count in
+        let v = values (now (kinds .entry)) (now (numbers .entry)) (now (sequences .entry)) (now («sequence_offsets» .entry)) in
+        ⌜ now («delta_g» .exit) ≡ ifPasses (keysVerdict n v (length (now («delta_g» .entry))) (length (now (entropy .entry)))) (deltaG n v) (now («delta_g» .entry)) ⌝ }
+    ensures entropies { λ _. let n = keyNames (now (text .entry)) (now (offsets .entry)) (now (paired .entry)) (now (bases .entry)) count in
+        let v = values (now (kinds .entry)) (now (numbers .entry)) (now (sequences .entry)) (now («sequence_offsets» .entry)) in
+        ⌜ now (entropy .exit) ≡ ifPasses (keysVerdict n v (length (now («delta_g» .entry))) (length (now (entropy .entry)))) (deltaS n v) (now (entropy .entry)) ⌝ }
 {
     match check_lent(
         text,

@@ -11,40 +11,40 @@ use lib.Dec.{eqb}
 use lib.ListN.{length, getD, length-append, List·getD-append}
 use lib.Seq.{getD-at}
 use borrow.Author.Tests.{eqb-true, eqb-false}
-use Rattle.name_glues.specs.Names.{Names, isPresent}
+use Rattle.name_glues.specs.Names.{GlueNames, isPresent}
 use Rattle.name_new_bases.specs.Bases.{basesOf, isNew, firstsTo}
 use Rattle.name_new_bases.proofs.Firsts.{brings}
 use Rattle.name_glue_numbers.proofs.Places.{base, place, place-is, place-at-most, place-stays}
 
 -- the base of a new entry is none of those before it
-new-differs : (n : Names) (es : List ℕ) (k : ℕ) → isNew n (basesOf n es) (length es) k ≡ true → (j : ℕ) → j < length es → base n (getD es j 0) ≡ base n k → ⊥
+new-differs : (n : GlueNames) (es : List ℕ) (k : ℕ) → isNew n (basesOf n es) (length es) k ≡ true → (j : ℕ) → j < length es → base n (getD es j 0) ≡ base n k → ⊥
 new-differs n es k e j l =
     let last = eqb-true (place n es k) (length es) (and-eq-true-iff (isPresent n k) (eqb (place n es k) (length es)) .0 e .1) in
     place-is n es k .others j (omega arith)
 
 -- the base of a present entry that is not new is one of them
-known-place : (n : Names) (es : List ℕ) (k : ℕ) → isNew n (basesOf n es) (length es) k ≡ false → isPresent n k ≡ true → place n es k < length es
+known-place : (n : GlueNames) (es : List ℕ) (k : ℕ) → isNew n (basesOf n es) (length es) k ≡ false → isPresent n k ≡ true → place n es k < length es
 known-place n es k e p =
     let other = eqb-false (place n es k) (length es) (rw p at e) in
     lt-of-le-of-ne (place-is n es k .to) other
 
 -- No base is brought twice.
-abbrev pub Distinct : Names → List ℕ → Type 0
+abbrev pub Distinct : GlueNames → List ℕ → Type 0
 Distinct n es = (j m : ℕ) → j < m → m < length es → base n (getD es j 0) ≡ base n (getD es m 0) → ⊥
 
 -- Each entry brings a base that is brought by it or before it.
-abbrev pub Covers : Names → List ℕ → ℕ → Type 0
+abbrev pub Covers : GlueNames → List ℕ → ℕ → Type 0
 Covers n es k = (i : ℕ) → i < k → isPresent n i ≡ true → place n es i < length es
 
 -- Each that brings a base is there.
-abbrev pub Present : Names → List ℕ → Type 0
+abbrev pub Present : GlueNames → List ℕ → Type 0
 Present n es = (j : ℕ) → j < length es → isPresent n (getD es j 0) ≡ true
 
 -- The entry at place j is new where j bases stand before it.
-abbrev pub InOrder : Names → List ℕ → Type 0
+abbrev pub InOrder : GlueNames → List ℕ → Type 0
 InOrder n es = (j : ℕ) → j < length es → (length (firstsTo n (getD es j 0)) ≡ j) × (brings n (getD es j 0) ≡ true)
 
-module _ (n : Names) (es : List ℕ) (k : ℕ) where
+module _ (n : GlueNames) (es : List ℕ) (k : ℕ) where
   -- where the last of these is
   last-or-earlier : {A : Type 0} (m : ℕ) → m < length (es ++ (k ∷ [])) → (m ≡ length es → A) → (m < length es → A) → A
   last-or-earlier m l f g = ⊎-elim f g (eq-or-lt-of-le (le-of-suc-le-suc (rw (length-append es (k ∷ []), add-one (length es)) at l)))
@@ -82,7 +82,7 @@ module _ (n : Names) (es : List ℕ) (k : ℕ) where
   covers-kept e f i l p = ⊎-elim (λ h. subst (λ j. isPresent n j ≡ true → place n es j < length es) (sym h) (known-place n es k e) p) (λ h. f i h p) (eq-or-lt-of-le (le-of-suc-le-suc l))
 
 -- by how an entry adds to them
-by-entry : (n : Names) (k : ℕ) (P : List ℕ → Type 0) → (brings n k ≡ false → P (firstsTo n k)) → (brings n k ≡ true → P (firstsTo n k ++ (k ∷ []))) → P (firstsTo n (suc k))
+by-entry : (n : GlueNames) (k : ℕ) (P : List ℕ → Type 0) → (brings n k ≡ false → P (firstsTo n k)) → (brings n k ≡ true → P (firstsTo n k ++ (k ∷ []))) → P (firstsTo n (suc k))
 unfolding firstsTo
 by-entry n k P f g = go (brings n k) refl
   where
@@ -90,7 +90,7 @@ by-entry n k P f g = go (brings n k) refl
     go true e = g e
     go false e = subst P (sym (append-nil (firstsTo n k))) (f e)
 
-module _ (n : Names) where
+module _ (n : GlueNames) where
   -- the newest of them comes after all others
   order-more : (k : ℕ) → brings n k ≡ true → InOrder n (firstsTo n k) → InOrder n (firstsTo n k ++ (k ∷ []))
   order-more k e f j l =

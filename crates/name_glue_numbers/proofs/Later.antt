@@ -12,7 +12,7 @@ use Rattle.text_entries.specs.Entries.{part}
 use Rattle.text_entries.proofs.Bounds.{entry-starts, offset-within}
 use Rattle.name_stars.specs.Stars.{baseOf}
 use Rattle.name_base_list.specs.Bases.{glueOf}
-use Rattle.name_glues.specs.Names.{Names, names, nameAt, isPresent, Readable}
+use Rattle.name_glues.specs.Names.{GlueNames, glueNames, nameAt, isPresent, GluesReadable}
 use Rattle.name_new_bases.specs.Bases.{basesOf, isNew, firstsTo}
 use Rattle.name_new_bases.proofs.Firsts.{brings, firsts-below, firsts-grow}
 use Rattle.name_glue_numbers.proofs.Places.{base, place, place-in-table, place-is, place-only, place-stays}
@@ -20,19 +20,19 @@ use Rattle.name_glue_numbers.proofs.Brought.{covers}
 use Rattle.name_glue_numbers.proofs.Numbers.{glue}
 
 -- Two requests whose first k entries have the same names.
-pub record Alike (a b : Names) (k : ℕ) : Type 0 where
+pub record Alike (a b : GlueNames) (k : ℕ) : Type 0 where
   pub presence : (i : ℕ) → i < k → isPresent a i ≡ isPresent b i
   pub name : (i : ℕ) → i < k → nameAt a i ≡ nameAt b i
 
 -- the glue of an entry, by the place of its base
-by-place : (n : Names) (k i : ℕ) → glue n k i ≡ cond (isPresent n i) (glueOf (place n (firstsTo n k) i) (nameAt n i)) 0
+by-place : (n : GlueNames) (k i : ℕ) → glue n k i ≡ cond (isPresent n i) (glueOf (place n (firstsTo n k) i) (nameAt n i)) 0
 by-place n k i = ap (λ r. cond (isPresent n i) (glueOf r (nameAt n i)) 0) (place-in-table n (firstsTo n k) i)
 
 where-present : (t : Bool) {x y : ℕ} → (t ≡ true → x ≡ y) → cond t x 0 ≡ cond t y 0
 where-present true f = f refl
 where-present false f = refl
 
-module _ (a b : Names) where
+module _ (a b : GlueNames) where
   same-place : (k : ℕ) → Alike a b k → (es : List ℕ) → ((j : ℕ) → j < length es → getD es j 0 < k) → (i : ℕ) → i < k → place a es i ≡ place b es i
   same-place k s es there i l =
       let f = place-is b es i in
@@ -73,10 +73,10 @@ module _ (a b : Names) where
       ∙ sym (by-place b m i)
 
 -- Names added behind others leave those as they are.
-abbrev pub followed : Names → (text offsets present : List ℕ) → Names
-followed n text offsets present = names (n .text ++ text) (n .offsets ++ offsets) (n .present ++ present)
+abbrev pub followed : GlueNames → (text offsets present : List ℕ) → GlueNames
+followed n text offsets present = glueNames (n .text ++ text) (n .offsets ++ offsets) (n .present ++ present)
 
-module _ (n : Names) (r : Readable n) (text offsets present : List ℕ) where
+module _ (n : GlueNames) (r : GluesReadable n) (text offsets present : List ℕ) where
   part-stays : (from to : ℕ) → from ≤ to → to ≤ length (n .text) → part (n .text) from to ≡ part (n .text ++ text) from to
   part-stays from to h l =
       sym (ap (take (to - from)) (drop-append-le from (n .text) text (omega arith)) ∙ take-append-le (to - from) (drop from (n .text)) text (rw (length-drop from (n .text)) (omega arith)))

@@ -8,8 +8,8 @@ use native.Mathlib.Omega.{arith}
 use lib.ListN.{length, getD}
 use Rattle.name_stars.specs.Stars.{baseOf, isFrom}
 use Rattle.name_base_list.specs.Bases.{baseName, findBase, glueOf}
-use Rattle.name_glues.specs.Names.{Names, nameAt, isPresent}
-use Rattle.name_glues.specs.Glues.{placeOf, glueAt}
+use Rattle.name_glues.specs.Names.{GlueNames, nameAt, isPresent}
+use Rattle.name_glues.specs.Glues.{baseAt, glueAt}
 use Rattle.name_new_bases.specs.Bases.{basesOf, firstsTo, basesTable}
 use Rattle.name_new_bases.proofs.Firsts.{length-bases, base-of-first, firsts-below}
 use Rattle.name_new_bases.proofs.Front.{name-front}
@@ -40,7 +40,7 @@ below true true r c f = omega (arith, f refl)
 below true false r c f = omega (arith, f refl)
 below false s r c f = omega arith
 
-module _ (n : Names) (k : ℕ) where
+module _ (n : GlueNames) (k : ℕ) where
   -- After k entries: how many bases, their list, and the glue of an entry.
   abbrev pub count : ℕ
   count = length (firstsTo n k)
@@ -64,7 +64,7 @@ module _ (n : Names) (k : ℕ) where
   no-base-twice j m l h e = distinct n k j m l h (sym (brought j (omega arith)) ∙ e ∙ brought m h)
 
   -- The list: the base of every present entry is in it.
-  pub every-entry-is-listed : (i : ℕ) → i < k → isPresent n i ≡ true → (placeOf n list count i < count) × (baseName (n .text) list (placeOf n list count i) ≡ baseOf (nameAt n i))
+  pub every-entry-is-listed : (i : ℕ) → i < k → isPresent n i ≡ true → (baseAt n list count i < count) × (baseName (n .text) list (baseAt n list count i) ≡ baseOf (nameAt n i))
   every-entry-is-listed i l p =
       let es = firstsTo n k in
       let found = covers n k i l p in
@@ -101,8 +101,8 @@ module _ (n : Names) (k : ℕ) where
 
   -- An absent entry has glue 0, and no other has.
   pub absent-is-zero : (i : ℕ) → (glue i ≡ 0) ↔ (isPresent n i ≡ false)
-  absent-is-zero i = zero-exactly (isPresent n i) (isFrom (nameAt n i)) (placeOf n list count i)
+  absent-is-zero i = zero-exactly (isPresent n i) (isFrom (nameAt n i)) (baseAt n list count i)
 
   -- Every glue is below the count of glues.
   pub glue-below : (i : ℕ) → i < k → glue i < count * 2 + 1
-  glue-below i l = below (isPresent n i) (isFrom (nameAt n i)) (placeOf n list count i) count λ p. every-entry-is-listed i l p .0
+  glue-below i l = below (isPresent n i) (isFrom (nameAt n i)) (baseAt n list count i) count λ p. every-entry-is-listed i l p .0

@@ -8,12 +8,12 @@ use native.Mathlib.Omega.{arith}
 use lib.ListN.{getD, List·getD-append}
 use lib.Seq.{getD-at, getD-append-add}
 use Rattle.units.specs.Glues.{fiveOf}
-use Rattle.name_glues.specs.Names.{Names}
+use Rattle.name_glues.specs.Names.{GlueNames}
 use Rattle.name_glues.specs.Glues.{glueAt}
 use Rattle.name_glue_tables.specs.Tables.{gluesOfStrand, strandTable, scaffoldTable}
 use Rattle.name_glue_tables.proofs.Filling.{length-strands, length-scaffold}
 
-module _ (n : Names) (bases : List ℕ) (count : ℕ) where
+module _ (n : GlueNames) (bases : List ℕ) (count : ℕ) where
   -- A bay's place holds the glue of the bay's entry.
   pub bay-cell : (from bays bay : ℕ) → bay < bays → getD (scaffoldTable n bases count from bays) bay 0 ≡ glueAt n bases count (from + bay)
   unfolding scaffoldTable

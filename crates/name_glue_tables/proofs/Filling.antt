@@ -7,12 +7,12 @@ use native.Mathlib.Omega.{arith}
 use lib.ListN.{length, set, take, drop, length-append}
 use Rattle.units.specs.declared.StrandGlues.{StrandGlues}
 use Rattle.units.specs.Glues.{fiveOf}
-use Rattle.name_glues.specs.Names.{Names}
+use Rattle.name_glues.specs.Names.{GlueNames}
 use Rattle.name_glues.specs.Glues.{glueAt}
 use Rattle.name_glue_tables.specs.Tables.{fiveFrom, gluesOfStrand, strandTable, scaffoldTable}
 use Rattle.name_glue_tables.proofs.Stores.{stretch-behind, store-behind}
 
-module _ (n : Names) (bases : List ℕ) (count : ℕ) where
+module _ (n : GlueNames) (bases : List ℕ) (count : ℕ) where
   pub strand-above : (s : ℕ) → (s ≡ 0 → ⊥) → gluesOfStrand n bases count s ≡ fiveFrom n bases count ((s - 1) * 5)
   strand-above zero h = absurd (h refl)
   strand-above (suc s) h = rw (sub-one (suc s))

@@ -4,9 +4,9 @@ ghost use mathlib.Core.List.{_++_};
 ghost use Prim.Native.Nat.{_+_, _*_, _≤_, _<_};
 ghost use lib.ListN.{length, take, drop};
 ghost use Rattle.units.specs.Glues.{fiveOf};
-ghost use Rattle.name_glues.specs.Names.{names, Readable};
+ghost use Rattle.name_glues.specs.Names.{glueNames, GluesReadable};
 ghost use Rattle.name_glue_tables.specs.Tables.{fiveFrom, gluesOfStrand, strandTable, scaffoldTable};
-ghost use Rattle.name_glues.specs.Glues.{Searchable};
+ghost use Rattle.name_base_list.specs.Bases.{Searchable};
 use name_glues::glue_at;
 use units::StrandGlues;
 
@@ -19,10 +19,11 @@ fn five_from(
     count: usize,
     i: usize,
 ) -> StrandGlues
-    requires { ⌜ Readable (names (now text) (now offsets) (now present)) ⌝ }
-    requires { ⌜ Searchable (names (now text) (now offsets) (now present)) (now bases) count ⌝ }
+    requires { ⌜ GluesReadable (glueNames (now text) (now offsets) (now present)) ⌝ }
+    requires { ⌜ Searchable (now text) (now bases) count ⌝ }
     requires { ⌜ i + 5 ≤ length (now present) ⌝ }
-    ensures { λ r. ⌜ r ≡ fiveFrom (names (now (text .entry)) (now (offsets .entry)) (now (present .entry))) (now (bases .entry)) count i ⌝ }
+    ensures { λ r. let n = glueNames (now (text .entry)) (now (offsets .entry)) (now (present .entry)) in
+        ⌜ r ≡ fiveFrom n (now (bases .entry)) count i ⌝ }
 {
     let north = glue_at(text, offsets, present, bases, count, i);
     let east = glue_at(text, offsets, present, bases, count, i + 1);
@@ -43,10 +44,11 @@ fn glues_of_strand(
     count: usize,
     s: usize,
 ) -> StrandGlues
-    requires { ⌜ Readable (names (now text) (now offsets) (now present)) ⌝ }
-    requires { ⌜ Searchable (names (now text) (now offsets) (now present)) (now bases) count ⌝ }
+    requires { ⌜ GluesReadable (glueNames (now text) (now offsets) (now present)) ⌝ }
+    requires { ⌜ Searchable (now text) (now bases) count ⌝ }
     requires { ⌜ s * 5 ≤ length (now present) ⌝ }
-    ensures { λ r. ⌜ r ≡ gluesOfStrand (names (now (text .entry)) (now (offsets .entry)) (now (present .entry))) (now (bases .entry)) count s ⌝ }
+    ensures { λ r. let n = glueNames (now (text .entry)) (now (offsets .entry)) (now (present .entry)) in
+        ⌜ r ≡ gluesOfStrand n (now (bases .entry)) count s ⌝ }
 {
     if s == 0 {
         return StrandGlues { glues: [0; 5] };
@@ -77,11 +79,12 @@ pub fn fill_strands(
     count: usize,
     table: &mut [u32],
 )
-    requires { ⌜ Readable (names (now text) (now offsets) (now present)) ⌝ }
-    requires { ⌜ Searchable (names (now text) (now offsets) (now present)) (now bases) count ⌝ }
+    requires { ⌜ GluesReadable (glueNames (now text) (now offsets) (now present)) ⌝ }
+    requires { ⌜ Searchable (now text) (now bases) count ⌝ }
     requires { ⌜ strands * 5 ≤ length (now present) + 5 ⌝ }
     requires { ⌜ length (now table) ≡ strands * 5 ⌝ }
-    ensures { λ _. ⌜ now (table .exit) ≡ strandTable (names (now (text .entry)) (now (offsets .entry)) (now (present .entry))) (now (bases .entry)) count strands ⌝ }
+    ensures { λ _. let n = glueNames (now (text .entry)) (now (offsets .entry)) (now (present .entry)) in
+        ⌜ now (table .exit) ≡ strandTable n (now (bases .entry)) count strands ⌝ }
 {
     let mut s = 0;
     while s < strands {
@@ -101,10 +104,11 @@ pub fn fill_scaffold(
     count: usize,
     table: &mut [u32],
 )
-    requires { ⌜ Readable (names (now text) (now offsets) (now present)) ⌝ }
-    requires { ⌜ Searchable (names (now text) (now offsets) (now present)) (now bases) count ⌝ }
+    requires { ⌜ GluesReadable (glueNames (now text) (now offsets) (now present)) ⌝ }
+    requires { ⌜ Searchable (now text) (now bases) count ⌝ }
     requires { ⌜ from + length (now table) ≤ length (now present) ⌝ }
-    ensures { λ _. ⌜ now (table .exit) ≡ scaffoldTable (names (now (text .entry)) (now (offsets .entry)) (now (present .entry))) (now (bases .entry)) count from (length (now (table .entry))) ⌝ }
+    ensures { λ _. let n = glueNames (now (text .entry)) (now (offsets .entry)) (now (present .entry)) in
+        ⌜ now (table .exit) ≡ scaffoldTable n (now (bases .entry)) count from (length (now (table .entry))) ⌝ }
 {
     let mut bay = 0;
     while bay < table.len() {

@@ -16,7 +16,7 @@ use Rattle.units.specs.Decimals.{plus}
 use Rattle.name_keys.specs.declared.Joined.{Joined}
 use Rattle.name_keys.specs.declared.Joined.the-variants.{Glues, Nothing}
 use Rattle.name_key_values.specs.Values.{Values, keyEnergy}
-use Rattle.name_keys.specs.Names.{Names, keyJoined}
+use Rattle.name_keys.specs.Names.{KeyNames, keyJoined}
 use Rattle.name_keys_lent.specs.Lent.{sideOf}
 use Rattle.name_key_matrices.specs.Matrices.{setJoined, InSide, matrixTo}
 use Rattle.name_key_cells.specs.Cells.{cell, joins, lastOf}
@@ -68,7 +68,7 @@ joins-both (Glues p q) i j =
     ∙ ap₂ _||_ (and-comm (eqb q i) (eqb p j)) (and-comm (eqb p i) (eqb q j))
 joins-both Nothing i j = refl
 
-module _ (energyPart : BaseEnergy → Float) (n : Names) (v : Values) where
+module _ (energyPart : BaseEnergy → Float) (n : KeyNames) (v : Values) where
   -- cell by cell the matrices are what the last key that joins the two glues gives
   pub cell-by-cell : (i j k : ℕ) → i < sideOf (n .count) → j < sideOf (n .count) → cell (sideOf (n .count)) (matrixTo energyPart n v k) i j ≡ lastOf energyPart n v i j k
   unfolding matrixTo lastOf

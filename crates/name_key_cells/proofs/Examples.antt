@@ -11,10 +11,10 @@ use Rattle.units.specs.Refusals.{passes, refuses}
 use Rattle.dna_single.specs.Single.{singleEnergy}
 use Rattle.text_entries.specs.Entries.{offsetsFrom, areFlags, sameBytes}
 use Rattle.name_stars.specs.Stars.{beforeStars}
-use Rattle.name_base_list.specs.Bases.{basesFitFrom, findFrom}
+use Rattle.text_entries.specs.InOrder.{firstFrom, eachFrom}
+use Rattle.name_base_list.specs.Bases.{basesFitFrom}
 use Rattle.name_key_values.specs.Values.{Values, values}
-use Rattle.name_key_refusals.specs.Refusals.{keysFrom}
-use Rattle.name_keys.specs.Names.{Names, names}
+use Rattle.name_keys.specs.Names.{KeyNames, keyNames}
 use Rattle.name_key_matrices.specs.Matrices.{matrixTo, deltaG}
 use Rattle.name_energy_keys.specs.Keys.{keysVerdict}
 
@@ -31,12 +31,12 @@ c = 99
 abbrev star : ℕ
 star = 42
 
-abbrev namesWith : (paired : List ℕ) → Names
+abbrev namesWith : (paired : List ℕ) → KeyNames
 namesWith paired =
-    names (a ∷ b ∷ a ∷ star ∷ a ∷ b ∷ star ∷ c ∷ b ∷ a ∷ star ∷ []) (2 ∷ 4 ∷ 4 ∷ 5 ∷ 7 ∷ 8 ∷ 8 ∷ 9 ∷ 11 ∷ []) paired
+    keyNames (a ∷ b ∷ a ∷ star ∷ a ∷ b ∷ star ∷ c ∷ b ∷ a ∷ star ∷ []) (2 ∷ 4 ∷ 4 ∷ 5 ∷ 7 ∷ 8 ∷ 8 ∷ 9 ∷ 11 ∷ []) paired
     (0 ∷ 1 ∷ 1 ∷ 1 ∷ replicate 250 0) 2
 
-abbrev fourNames : Names
+abbrev fourNames : KeyNames
 fourNames = namesWith (0 ∷ 1 ∷ 0 ∷ 1 ∷ [])
 
 -- the first three give numbers, the last the sequence AA
@@ -64,20 +64,20 @@ pub the-matrix : deltaG fourNames fourValues
     ∷ o ∷ o ∷ aa ∷ o ∷ o
     ∷ o ∷ minus 3 1 ∷ o ∷ o ∷ o
     ∷ [])
-unfolding matrixTo findFrom sameBytes beforeStars
+unfolding matrixTo firstFrom sameBytes beforeStars
 the-matrix = refl
 
 -- a number that is not finite is refused with its key's place, although the key would be skipped
 pub an-infinity : keysVerdict fourNames (numbersWith (inf false)) 25 25 ≡ refuses 3 (2 ∷ [])
-unfolding keysFrom finite decimal offsetsFrom areFlags basesFitFrom
+unfolding eachFrom finite decimal offsetsFrom areFlags basesFitFrom
 an-infinity = refl
 
 pub a-nan : keysVerdict fourNames (numbersWith nan) 25 25 ≡ refuses 3 (2 ∷ [])
-unfolding keysFrom finite decimal offsetsFrom areFlags basesFitFrom
+unfolding eachFrom finite decimal offsetsFrom areFlags basesFitFrom
 a-nan = refl
 
 pub all-finite : keysVerdict fourNames (numbersWith (plus 1 1)) 25 25 ≡ passes
-unfolding keysFrom finite decimal offsetsFrom areFlags basesFitFrom
+unfolding eachFrom finite decimal offsetsFrom areFlags basesFitFrom
 all-finite = refl
 
 -- sizes come before flags, and flags before keys

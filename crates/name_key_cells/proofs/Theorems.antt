@@ -11,12 +11,12 @@ use Rattle.units.specs.declared.BaseEnergy.{BaseEnergy}
 use Rattle.units.specs.Decimals.{plus}
 use Rattle.text_entries.specs.Entries.{entryOf}
 use Rattle.name_stars.specs.Stars.{baseOf, isFrom}
-use Rattle.name_base_list.specs.Bases.{glueOf}
+use Rattle.name_base_list.specs.Bases.{baseNumber, glueOf}
 use Rattle.name_keys.specs.declared.RefOrPair.{RefOrPair}
 use Rattle.name_keys.specs.declared.RefOrPair.the-variants.{Ref, Pair}
 use Rattle.name_keys.specs.declared.Joined.the-variants.{Glues, Nothing}
 use Rattle.name_key_values.specs.Values.{Values, keyEnergy}
-use Rattle.name_keys.specs.Names.{Names, namesAt, isRegistered, baseNumber, joinedByOne, joinedBy, keyJoined}
+use Rattle.name_keys.specs.Names.{KeyNames, namesAt, isRegistered, joinedByOne, joinedBy, keyJoined}
 use Rattle.name_keys_lent.specs.Lent.{sideOf}
 use Rattle.name_key_matrices.specs.Matrices.{setJoined, matrixTo}
 use Rattle.name_key_cells.specs.Cells.{cell, joins, registeredIn, keyRegistered}
@@ -27,7 +27,7 @@ pub however-many-stars : (text bases : List ℕ) (count : ℕ) (a b : List ℕ) 
 however-many-stars text bases count a b same = rw same
 
 -- what a key with a name that is not registered joins
-joins-nothing : (n : Names) (names : RefOrPair) → registeredIn n names ≡ false → joinedBy (n .text) (n .offsets) (n .bases) (n .count) names ≡ Nothing
+joins-nothing : (n : KeyNames) (names : RefOrPair) → registeredIn n names ≡ false → joinedBy (n .text) (n .offsets) (n .bases) (n .count) names ≡ Nothing
 joins-nothing n (Ref name) e = rw e
 joins-nothing n (Pair first second) e = rw e
 
@@ -56,7 +56,7 @@ joined-apart text offsets bases count (Pair first second) j =
     (isRegistered text bases count (entryOf text offsets first) && isRegistered text bases count (entryOf text offsets second))
 
 -- Of either matrix, after any number of keys:
-module _ (energyPart : BaseEnergy → Float) (n : Names) (v : Values) where
+module _ (energyPart : BaseEnergy → Float) (n : KeyNames) (v : Values) where
   -- it is symmetric,
   pub symmetric : (i j keys : ℕ) → i < sideOf (n .count) → j < sideOf (n .count)
       → cell (sideOf (n .count)) (matrixTo energyPart n v keys) i j ≡ cell (sideOf (n .count)) (matrixTo energyPart n v keys) j i

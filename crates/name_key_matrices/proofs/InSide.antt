@@ -7,13 +7,13 @@ use native.Mathlib.Omega.{arith}
 use lib.Dec.{ltb}
 use borrow.Author.Tests.{ltb-true}
 use Rattle.text_entries.specs.Entries.{entryOf}
-use Rattle.text_entries.proofs.Same.{both}
+use Rattle.units.proofs.Tests.{both}
 use Rattle.name_stars.specs.Stars.{isFrom}
-use Rattle.name_base_list.specs.Bases.{glueOf}
+use Rattle.name_base_list.specs.Bases.{baseNumber, glueOf}
 use Rattle.name_keys.specs.declared.RefOrPair.{RefOrPair}
 use Rattle.name_keys.specs.declared.RefOrPair.the-variants.{Ref, Pair}
 use Rattle.name_keys.specs.declared.Joined.the-variants.{Glues, Nothing}
-use Rattle.name_keys.specs.Names.{Names, namesAt, baseNumber, joinedBy, keyJoined}
+use Rattle.name_keys.specs.Names.{KeyNames, namesAt, joinedBy, keyJoined}
 use Rattle.name_keys_lent.specs.Lent.{sideOf}
 use Rattle.name_key_matrices.specs.Matrices.{InSide}
 
@@ -48,5 +48,5 @@ joined-in-side text offsets bases count (Pair first second) =
     two-in-side (baseNumber text bases count (entryOf text offsets first)) (baseNumber text bases count (entryOf text offsets second)) count
     (entryOf text offsets first) (entryOf text offsets second)
 
-pub key-in-side : (n : Names) (k : ℕ) → InSide (sideOf (n .count)) (keyJoined n k)
+pub key-in-side : (n : KeyNames) (k : ℕ) → InSide (sideOf (n .count)) (keyJoined n k)
 key-in-side n k = joined-in-side (n .text) (n .offsets) (n .bases) (n .count) (namesAt (n .paired) k)

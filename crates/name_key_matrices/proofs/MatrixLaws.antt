@@ -13,7 +13,7 @@ use Rattle.units.specs.Decimals.{plus}
 use Rattle.name_keys.specs.declared.Joined.{Joined}
 use Rattle.name_keys.specs.declared.Joined.the-variants.{Glues, Nothing}
 use Rattle.name_key_values.specs.Values.{Values, keyEnergy}
-use Rattle.name_keys.specs.Names.{Names, keyJoined}
+use Rattle.name_keys.specs.Names.{KeyNames, keyJoined}
 use Rattle.name_keys_lent.specs.Lent.{sideOf}
 use Rattle.name_key_matrices.specs.Matrices.{setJoined, InSide, matrixTo}
 
@@ -42,12 +42,12 @@ pub length-joined : (side : ℕ) (joined : Joined) (x : Float) (matrix : List Fl
 length-joined side (Glues i j) x matrix = simp length-set
 length-joined side Nothing x matrix = refl
 
-length-matrix : (energyPart : BaseEnergy → Float) (n : Names) (v : Values) (k : ℕ) → length (matrixTo energyPart n v k) ≡ sideOf (n .count) * sideOf (n .count)
+length-matrix : (energyPart : BaseEnergy → Float) (n : KeyNames) (v : Values) (k : ℕ) → length (matrixTo energyPart n v k) ≡ sideOf (n .count) * sideOf (n .count)
 unfolding matrixTo
 length-matrix energyPart n v zero = length-replicate _ _
 length-matrix energyPart n v (suc k) = length-joined (sideOf (n .count)) (keyJoined n k) (energyPart (keyEnergy v k)) (matrixTo energyPart n v k) ∙ length-matrix energyPart n v k
 
-module _ (energyPart : BaseEnergy → Float) (n : Names) (v : Values) where
+module _ (energyPart : BaseEnergy → Float) (n : KeyNames) (v : Values) where
   -- no key yet
   pub matrix-none : {matrix : List Float} (size : ℕ) → size ≡ sideOf (n .count) * sideOf (n .count) → matrix ≡ replicate size (plus 0 1) → matrix ≡ matrixTo energyPart n v 0
   unfolding matrixTo

@@ -8,7 +8,7 @@ use Rattle.units.specs.Decimals.{plus}
 use Rattle.name_keys.specs.declared.Joined.{Joined}
 use Rattle.name_keys.specs.declared.Joined.the-variants.{Glues, Nothing}
 use Rattle.name_key_values.specs.Values.{Values, keyEnergy}
-use Rattle.name_keys.specs.Names.{Names, keyJoined}
+use Rattle.name_keys.specs.Names.{KeyNames, keyJoined}
 use Rattle.name_keys_lent.specs.Lent.{sideOf}
 
 -- cells (i, j) and (j, i) set to a number
@@ -26,13 +26,13 @@ InSide side (Glues i j) = (i < side) × (j < side)
 InSide side Nothing = Unit {0}
 
 -- the matrix of one part of the energies after the first k keys: 0.0 everywhere, then key by key, so that a later one wins
-unfoldable pub matrixTo : (energyPart : BaseEnergy → Float) → Names → Values → ℕ → List Float
+unfoldable pub matrixTo : (energyPart : BaseEnergy → Float) → KeyNames → Values → ℕ → List Float
 matrixTo energyPart n v zero = replicate (sideOf (n .count) * sideOf (n .count)) (plus 0 1)
 matrixTo energyPart n v (suc k) = setJoined (sideOf (n .count)) (keyJoined n k) (energyPart (keyEnergy v k)) (matrixTo energyPart n v k)
 
 -- ΔG and ΔS after all keys
-abbrev pub deltaG : Names → Values → List Float
+abbrev pub deltaG : KeyNames → Values → List Float
 deltaG n v = matrixTo (λ energy. energy .dg) n v (length (v .kinds))
 
-abbrev pub deltaS : Names → Values → List Float
+abbrev pub deltaS : KeyNames → Values → List Float
 deltaS n v = matrixTo (λ energy. energy .ds) n v (length (v .kinds))

@@ -4,7 +4,7 @@ ghost use Prim.Native.Nat.{_*_, _<_};
 ghost use lib.ListN.{length, replicate};
 ghost use Rattle.units.specs.Decimals.{plus};
 ghost use Rattle.name_key_values.specs.Values.{values};
-ghost use Rattle.name_keys.specs.Names.{names};
+ghost use Rattle.name_keys.specs.Names.{keyNames};
 ghost use Rattle.name_key_matrices.specs.Matrices.{setBoth, setJoined, InSide, deltaG, deltaS};
 ghost use Rattle.name_keys_lent.specs.Lent.{Lent};
 use name_key_values::key_energy;
@@ -69,9 +69,15 @@ pub fn set_keys(
     delta_g: &mut [f64],
     entropy: &mut [f64],
 )
-    requires { ⌜ Lent (names (now text) (now offsets) (now paired) (now bases) count) (values (now kinds) (now numbers) (now sequences) (now «sequence_offsets»)) (length (now «delta_g»)) (length (now entropy)) ⌝ }
-    ensures { λ _. ⌜ now («delta_g» .exit) ≡ deltaG (names (now (text .entry)) (now (offsets .entry)) (now (paired .entry)) (now (bases .entry)) count) (values (now (kinds .entry)) (now (numbers .entry)) (now (sequences .entry)) (now («sequence_offsets» .entry))) ⌝ }
-    ensures { λ _. ⌜ now (entropy .exit) ≡ deltaS (names (now (text .entry)) (now (offsets .entry)) (now (paired .entry)) (now (bases .entry)) count) (values (now (kinds .entry)) (now (numbers .entry)) (now (sequences .entry)) (now («sequence_offsets» .entry))) ⌝ }
+    requires { let n = keyNames (now text) (now offsets) (now paired) (now bases) count in
+        let v = values (now kinds) (now numbers) (now sequences) (now «sequence_offsets») in
+        ⌜ Lent n v (length (now «delta_g»)) (length (now entropy)) ⌝ }
+    ensures { λ _. let n = keyNames (now (text .entry)) (now (offsets .entry)) (now (paired .entry)) (now (bases .entry)) count in
+        let v = values (now (kinds .entry)) (now (numbers .entry)) (now (sequences .entry)) (now («sequence_offsets» .entry)) in
+        ⌜ now («delta_g» .exit) ≡ deltaG n v ⌝ }
+    ensures { λ _. let n = keyNames (now (text .entry)) (now (offsets .entry)) (now (paired .entry)) (now (bases .entry)) count in
+        let v = values (now (kinds .entry)) (now (numbers .entry)) (now (sequences .entry)) (now («sequence_offsets» .entry)) in
+        ⌜ now (entropy .exit) ≡ deltaS n v ⌝ }
 {
     clear(delta_g);
     clear(entropy);

@@ -1,1 +1,2 @@
-pub mod ValueLaws
+pub mod RefusalLaws
+pub mod Theorems

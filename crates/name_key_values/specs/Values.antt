@@ -1,15 +1,15 @@
 -- What a key gives, two floats or a sequence: how it is read, and the energy that it comes to. Assumes nothing.
 use Prim.Native.Nat.{ℕ, _+_}
-use mathlib.Core.Bool.{Bool, true, cond, _&&_}
+use mathlib.Core.Bool.{cond}
 use mathlib.Core.List.{List}
-use lib.Dec.{eqb, leb}
+use lib.Dec.{eqb}
 use lib.Ieee.{Float, nan}
 use lib.ListN.{getD}
 use Rattle.units.specs.declared.BaseEnergy.{BaseEnergy}
 use Rattle.dna_single.specs.Single.{singleEnergy}
 use Rattle.text_entries.specs.Entries.{part}
 use Rattle.name_key_values.specs.declared.GsOrSeq.{GsOrSeq}
-use Rattle.name_key_values.specs.declared.GsOrSeq.the-variants.{Gs, Seq}
+use Rattle.name_key_values.specs.declared.GsOrSeq.the-variants.{GS, Seq}
 
 -- The keys' values as they are lent: a kind for each key, two numbers for each key, and the sequences' text with its offsets.
 pub record Values : Type 0 where
@@ -21,21 +21,20 @@ pub record Values : Type 0 where
 abbrev pub values : (kinds : List ℕ) → (numbers : List Float) → (sequences sequenceOffsets : List ℕ) → Values
 values kinds numbers sequences sequenceOffsets = record { kinds = kinds; numbers = numbers; sequences = sequences; sequenceOffsets = sequenceOffsets }
 
--- what key k gives: kind 1 is the sequence at entry k, kind 0 the numbers 2k and 2k + 1
-abbrev pub valueAt : (kinds : List ℕ) → (numbers : List Float) → (sequenceOffsets : List ℕ) → ℕ → GsOrSeq
-valueAt kinds numbers sequenceOffsets k =
-    cond (eqb (getD kinds k 0) 1)
-    (Seq (getD sequenceOffsets k 0) (getD sequenceOffsets (k + 1) 0))
-    (Gs (getD numbers (k + k) nan) (getD numbers (k + k + 1) nan))
+-- the numbers 2k and 2k + 1, and the sequence at entry k
+abbrev pub numbersAt : (numbers : List Float) → ℕ → GsOrSeq
+numbersAt numbers k = GS (getD numbers (k + k) nan) (getD numbers (k + k + 1) nan)
 
--- a sequence's offsets do not fall and lie within their text
-abbrev pub valueFits : (end : ℕ) → GsOrSeq → Bool
-valueFits end (Gs dg ds) = true
-valueFits end (Seq from to) = leb from to && leb to end
+abbrev pub sequenceAt : (sequenceOffsets : List ℕ) → ℕ → GsOrSeq
+sequenceAt sequenceOffsets k = Seq (getD sequenceOffsets k 0) (getD sequenceOffsets (k + 1) 0)
+
+-- what key k gives: kind 1 is a sequence, kind 0 two numbers
+abbrev pub valueAt : (kinds : List ℕ) → (numbers : List Float) → (sequenceOffsets : List ℕ) → ℕ → GsOrSeq
+valueAt kinds numbers sequenceOffsets k = cond (eqb (getD kinds k 0) 1) (sequenceAt sequenceOffsets k) (numbersAt numbers k)
 
 -- the energy that a value comes to: the two floats, or that of the sequence with its start term
 abbrev pub gsOrSeqToGs : (sequences : List ℕ) → GsOrSeq → BaseEnergy
-gsOrSeqToGs sequences (Gs dg ds) = record { dg = dg; ds = ds }
+gsOrSeqToGs sequences (GS dg ds) = record { dg = dg; ds = ds }
 gsOrSeqToGs sequences (Seq from to) = singleEnergy (part sequences from to)
 
 -- the same of key k

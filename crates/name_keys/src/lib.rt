@@ -1,14 +1,13 @@
 // The names of a key, and the glues that it joins.
 ghost use mathlib.Core.Path.{_≡_};
 ghost use mathlib.Core.Bool.{true};
-ghost use Prim.Native.Nat.{_+_, _<_, _≤_};
+ghost use Prim.Native.Nat.{_+_, _<_};
 ghost use lib.ListN.{length};
 ghost use Rattle.text_entries.specs.Entries.{offsetsFit};
-ghost use Rattle.name_base_list.specs.Bases.{basesFit};
-ghost use Rattle.name_keys.specs.Names.{names, namesAt, namesFit, baseNumber, joinedByOne, joinedByTwo, joinedBy, keyJoined};
-use name_base_list::find_base;
+ghost use Rattle.name_base_list.specs.Bases.{Searchable};
+ghost use Rattle.name_keys.specs.Names.{keyNames, namesAt, areEntries, joinedByOne, joinedByTwo, joinedBy, keyJoined};
+use name_base_list::base_number;
 use name_base_list::glue_number;
-use name_stars::self_and_inverse;
 use text_entries::entry;
 
 // One name or two, as entries of the text.
@@ -35,20 +34,9 @@ fn names_at(paired: &[u8], k: usize) -> RefOrPair
     RefOrPair::Ref(first)
 }
 
-// The number of a name's base, or `count` where the name is not registered.
-fn base_number(text: &[u8], bases: &[usize], count: usize, name: &[u8]) -> usize
-    requires { ⌜ count + count ≤ length (now bases) ⌝ }
-    requires { ⌜ basesFit (length (now text)) (now bases) count ≡ true ⌝ }
-    ensures { λ r. ⌜ r ≡ baseNumber (now (text .entry)) (now (bases .entry)) count (now (name .entry)) ⌝ }
-{
-    find_base(text, bases, count, self_and_inverse(name))
-}
-
 // A key of one name joins base and inverse.
 fn joined_by_one(text: &[u8], bases: &[usize], count: usize, name: &[u8]) -> Joined
-    requires { ⌜ count ≤ 127 ⌝ }
-    requires { ⌜ count + count ≤ length (now bases) ⌝ }
-    requires { ⌜ basesFit (length (now text)) (now bases) count ≡ true ⌝ }
+    requires { ⌜ Searchable (now text) (now bases) count ⌝ }
     ensures { λ r. ⌜ r ≡ joinedByOne (now (text .entry)) (now (bases .entry)) count (now (name .entry)) ⌝ }
 {
     let j = base_number(text, bases, count, name);
@@ -60,20 +48,16 @@ fn joined_by_one(text: &[u8], bases: &[usize], count: usize, name: &[u8]) -> Joi
 
 // A key of two names joins what each resolves to.
 fn joined_by_two(text: &[u8], bases: &[usize], count: usize, first: &[u8], second: &[u8]) -> Joined
-    requires { ⌜ count ≤ 127 ⌝ }
-    requires { ⌜ count + count ≤ length (now bases) ⌝ }
-    requires { ⌜ basesFit (length (now text)) (now bases) count ≡ true ⌝ }
+    requires { ⌜ Searchable (now text) (now bases) count ⌝ }
     ensures { λ r. ⌜ r ≡ joinedByTwo (now (text .entry)) (now (bases .entry)) count (now (first .entry)) (now (second .entry)) ⌝ }
 {
     let i = base_number(text, bases, count, first);
     let j = base_number(text, bases, count, second);
-    if i < count {
-        if j < count {
-            return Joined::Glues(
-                glue_number(i, first) as usize,
-                glue_number(j, second) as usize,
-            );
-        }
+    if (i < count) & (j < count) {
+        return Joined::Glues(
+            glue_number(i, first) as usize,
+            glue_number(j, second) as usize,
+        );
     }
     Joined::Nothing
 }
@@ -87,10 +71,8 @@ fn joined_by(
     names: RefOrPair,
 ) -> Joined
     requires { ⌜ offsetsFit (length (now text)) (now offsets) ≡ true ⌝ }
-    requires { ⌜ count ≤ 127 ⌝ }
-    requires { ⌜ count + count ≤ length (now bases) ⌝ }
-    requires { ⌜ basesFit (length (now text)) (now bases) count ≡ true ⌝ }
-    requires { ⌜ namesFit (length (now offsets)) names ≡ true ⌝ }
+    requires { ⌜ Searchable (now text) (now bases) count ⌝ }
+    requires { ⌜ areEntries (length (now offsets)) names ≡ true ⌝ }
     ensures { λ r. ⌜ r ≡ joinedBy (now (text .entry)) (now (offsets .entry)) (now (bases .entry)) count names ⌝ }
 {
     match names {
@@ -117,9 +99,9 @@ pub fn key_joined(
     requires { ⌜ k < length (now paired) ⌝ }
     requires { ⌜ length (now offsets) ≡ length (now paired) + length (now paired) + 1 ⌝ }
     requires { ⌜ offsetsFit (length (now text)) (now offsets) ≡ true ⌝ }
-    requires { ⌜ (count ≤ 127) × (count + count ≤ length (now bases)) ⌝ }
-    requires { ⌜ basesFit (length (now text)) (now bases) count ≡ true ⌝ }
-    ensures { λ r. ⌜ r ≡ keyJoined (names (now (text .entry)) (now (offsets .entry)) (now (paired .entry)) (now (bases .entry)) count) k ⌝ }
+    requires { ⌜ Searchable (now text) (now bases) count ⌝ }
+    ensures { λ r. let n = keyNames (now (text .entry)) (now (offsets .entry)) (now (paired .entry)) (now (bases .entry)) count in
+        ⌜ r ≡ keyJoined n k ⌝ }
 {
     joined_by(text, offsets, bases, count, names_at(paired, k))
 }

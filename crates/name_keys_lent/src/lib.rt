@@ -2,16 +2,18 @@
 ghost use mathlib.Core.Path.{_≡_};
 ghost use Prim.Native.Nat.{_+_, _<_, _≤_, _^_};
 ghost use lib.ListN.{length};
-ghost use mathlib.Core.List.{[]};
-ghost use Rattle.units.specs.Refusals.{refuses, check};
+ghost use Rattle.units.specs.Refusals.{check};
 ghost use Rattle.name_key_values.specs.Values.{values};
-ghost use Rattle.name_keys.specs.Names.{names};
-ghost use Rattle.name_keys_lent.specs.Lent.{listsFit, tablesFit, entriesFit, lentVerdict};
+ghost use Rattle.name_keys.specs.Names.{keyNames};
+ghost use Rattle.name_keys_lent.specs.Lent.{listsFit, matricesFit, keysRead, lentVerdict};
 use name_base_list::bases_fit;
 use text_entries::are_flags;
 use text_entries::offsets_fit;
+use units::BASE_NUMBERS;
 use units::Check;
-use units::Refusal;
+use units::MOST_BASES;
+use units::MOST_NAME_BYTES;
+use units::refused;
 
 // Whether the text is within its limit and each list has the length that the number of keys asks.
 fn lists_fit(
@@ -25,40 +27,25 @@ fn lists_fit(
     requires { ⌜ keys < 2 ^ 63 ⌝ }
     ensures { λ r. ⌜ r ≡ listsFit keys text offsets paired numbers «sequence_offsets» ⌝ }
 {
-    if 16384 < text {
-        return false;
-    }
-    if offsets != keys + keys + 1 {
-        return false;
-    }
-    if paired != keys {
-        return false;
-    }
-    if numbers != keys + keys {
-        return false;
-    }
-    sequence_offsets == keys + 1
+    (text <= MOST_NAME_BYTES)
+        & ((offsets == keys + keys + 1)
+            & ((paired == keys) & ((numbers == keys + keys) & (sequence_offsets == keys + 1))))
 }
 
 // Whether the bases and the matrices have their lengths.
-fn tables_fit(bases: usize, count: usize, delta_g: usize, entropy: usize) -> bool
-    ensures { λ r. ⌜ r ≡ tablesFit bases count «delta_g» entropy ⌝ }
+fn matrices_fit(bases: usize, count: usize, delta_g: usize, entropy: usize) -> bool
+    ensures { λ r. ⌜ r ≡ matricesFit bases count «delta_g» entropy ⌝ }
 {
-    if bases != 254 {
-        return false;
-    }
-    if 127 < count {
+    if MOST_BASES < count {
         return false;
     }
     let side = count + count + 1;
-    if delta_g != side * side {
-        return false;
-    }
-    entropy == side * side
+    let square = side * side;
+    (bases == BASE_NUMBERS) & ((delta_g == square) & (entropy == square))
 }
 
 // Whether each flag is 0 or 1, and offsets and bases lie within their texts.
-fn entries_fit(
+fn keys_read(
     text: &[u8],
     offsets: &[usize],
     paired: &[u8],
@@ -69,32 +56,12 @@ fn entries_fit(
     count: usize,
 ) -> bool
     requires { ⌜ count + count ≤ length (now bases) ⌝ }
-    ensures { λ r. ⌜ r ≡ entriesFit (now (text .entry)) (now (offsets .entry)) (now (paired .entry)) (now (kinds .entry)) (now (sequences .entry)) (now («sequence_offsets» .entry)) (now (bases .entry)) count ⌝ }
+    ensures { λ r. let n = keyNames (now (text .entry)) (now (offsets .entry)) (now (paired .entry)) (now (bases .entry)) count in
+        ⌜ r ≡ keysRead n (now (kinds .entry)) (now (sequences .entry)) (now («sequence_offsets» .entry)) ⌝ }
 {
-    if !are_flags(paired) {
-        return false;
-    }
-    if !are_flags(kinds) {
-        return false;
-    }
-    if !offsets_fit(offsets, text.len()) {
-        return false;
-    }
-    if !offsets_fit(sequence_offsets, sequences.len()) {
-        return false;
-    }
-    bases_fit(text.len(), bases, count)
-}
-
-// A refusal without values.
-fn refused(number: u32) -> Check
-    ensures { λ r. ⌜ r ≡ check (refuses number []) ⌝ }
-{
-    Check::Refused(Refusal {
-        number,
-        first: 0,
-        second: 0,
-    })
+    let flags = are_flags(paired) & are_flags(kinds);
+    let names = offsets_fit(offsets, text.len()) & bases_fit(text.len(), bases, count);
+    flags & (names & offsets_fit(sequence_offsets, sequences.len()))
 }
 
 // Refusal 1 for a size or a length, then 17 for a flag, an offset or a base; the matrices by their lengths.
@@ -111,7 +78,9 @@ pub fn check_lent(
     delta_g: usize,
     entropy: usize,
 ) -> Check
-    ensures { λ r. ⌜ r ≡ check (lentVerdict (names (now (text .entry)) (now (offsets .entry)) (now (paired .entry)) (now (bases .entry)) count) (values (now (kinds .entry)) (now (numbers .entry)) (now (sequences .entry)) (now («sequence_offsets» .entry))) «delta_g» entropy) ⌝ }
+    ensures { λ r. let n = keyNames (now (text .entry)) (now (offsets .entry)) (now (paired .entry)) (now (bases .entry)) count in
+        let v = values (now (kinds .entry)) (now (numbers .entry)) (now (sequences .entry)) (now («sequence_offsets» .entry)) in
+        ⌜ r ≡ check (lentVerdict n v «delta_g» entropy) ⌝ }
 {
     if !lists_fit(
         kinds.len(),
@@ -123,10 +92,10 @@ pub fn check_lent(
     ) {
         return refused(1);
     }
-    if !tables_fit(bases.len(), count, delta_g, entropy) {
+    if !matrices_fit(bases.len(), count, delta_g, entropy) {
         return refused(1);
     }
-    if !entries_fit(
+    if !keys_read(
         text,
         offsets,
         paired,

@@ -10,6 +10,7 @@ use lib.Dec.{ltb, eqb}
 use lib.ListN.{length, getD, take, drop, replicate, length-append, length-replicate, List·getD-append}
 use lib.Seq.{take-all, take-at, take-append-le, take-append-seam, drop-append-add, getD-at}
 use borrow.Author.Tests.{lt-ltb, le-ltb, ltb-false}
+use Rattle.units.specs.Limits.{mostGlues, mostBases, baseNumbers}
 use Rattle.units.specs.declared.Refusal.{Refusal}
 use Rattle.units.specs.declared.CountAnswer.{CountAnswer}
 use Rattle.units.specs.declared.CountAnswer.the-variants.{Count, Refused}
@@ -19,23 +20,23 @@ use Rattle.units.proofs.Verdicts.{no-fault}
 use Rattle.text_entries.proofs.Bounds.{entry-starts, offset-within, length-part}
 use Rattle.name_stars.specs.Stars.{baseLength, baseOf}
 use Rattle.name_stars.proofs.BeforeStars.{base-at-most}
-use Rattle.name_base_list.proofs.Found.{all-fit}
-use Rattle.name_glues.specs.Names.{Names, nameAt, isPresent, Readable}
-use Rattle.name_glues.specs.Glues.{Searchable}
+use Rattle.name_base_list.proofs.Within.{all-fit}
+use Rattle.name_glues.specs.Names.{GlueNames, nameAt, isPresent, GluesReadable}
+use Rattle.name_base_list.specs.Bases.{Searchable}
 use Rattle.name_new_bases.specs.Bases.{basesOf, isNew, firstsTo, basesTable, countVerdict}
 use Rattle.name_new_bases.specs.Steps.{Holds, Collected}
 use Rattle.name_new_bases.proofs.Firsts.{length-bases, bases-append, base-offset, base-size, brings, firsts-kept, firsts-more, firsts-below, firsts-grow}
 use Rattle.name_new_bases.proofs.Front.{find-front, fit-front}
 
 -- 127 bases pass, and the 128th entry that brings one is refused
-pub few-pass : (es : List ℕ) → length es ≤ 127 → countVerdict es ≡ passes
-few-pass es h = rw (le-ltb 256 (length es * 2 + 1) (omega arith))
+pub few-pass : (es : List ℕ) → length es ≤ mostBases → countVerdict es ≡ passes
+few-pass es h = rw (le-ltb mostGlues (length es * 2 + 1) (omega arith))
 
-pub many-refused : (es : List ℕ) → 127 < length es → countVerdict es ≡ refuses 15 (getD es 127 0 ∷ [])
-many-refused es h = rw (lt-ltb 256 (length es * 2 + 1) (omega arith))
+pub many-refused : (es : List ℕ) → mostBases < length es → countVerdict es ≡ refuses 15 (getD es mostBases 0 ∷ [])
+many-refused es h = rw (lt-ltb mostGlues (length es * 2 + 1) (omega arith))
 
-passed-few : (es : List ℕ) → countVerdict es ≡ passes → length es ≤ 127
-passed-few es e = omega (arith, ltb-false 256 (length es * 2 + 1) (no-fault (ltb 256 (length es * 2 + 1)) 15 (getD es 127 0 ∷ []) e))
+passed-few : (es : List ℕ) → countVerdict es ≡ passes → length es ≤ mostBases
+passed-few es e = omega (arith, ltb-false mostGlues (length es * 2 + 1) (no-fault (ltb mostGlues (length es * 2 + 1)) 15 (getD es mostBases 0 ∷ []) e))
 
 -- an answer that is a count has passed, and is that count
 is-count : (v : Verdict) (m : ℕ) {c : ℕ} → Count c ≡ countAnswer v m → (v ≡ passes) × (c ≡ m)
@@ -48,8 +49,8 @@ any-count passes m o e = cc
 any-count (refuses number values) m o e = e
 
 -- so more than 127 were brought, and a refusal stays, whatever is brought later
-refused-many : (es : List ℕ) (m : ℕ) {q : Refusal} → countAnswer (countVerdict es) m ≡ Refused q → 127 < length es
-refused-many es m e = elim (decLe (length es) 127) [ yes few ↦ absurd (never (ap (λ v. countAnswer v m) (few-pass es few))) | no many ↦ lt-of-not-le many ]
+refused-many : (es : List ℕ) (m : ℕ) {q : Refusal} → countAnswer (countVerdict es) m ≡ Refused q → mostBases < length es
+refused-many es m e = elim (decLe (length es) mostBases) [ yes few ↦ absurd (never (ap (λ v. countAnswer v m) (few-pass es few))) | no many ↦ lt-of-not-le many ]
   where
     never : countAnswer (countVerdict es) m ≡ Count m → ⊥
     never f = let clash : _≡_ {A = ℕ} 0 1 = cc in omega arith
@@ -58,7 +59,7 @@ refused-stays : (es rest : List ℕ) (m : ℕ) {q : Refusal} → countAnswer (co
 refused-stays es rest m e =
     let many = refused-many es m e in
     many-refused (es ++ rest) (rw (length-append es rest) (omega arith))
-    ∙ ap (λ entry. refuses 15 (entry ∷ [])) (List·getD-append es rest 0 127 many)
+    ∙ ap (λ entry. refuses 15 (entry ∷ [])) (List·getD-append es rest 0 mostBases many)
     ∙ sym (many-refused es many)
 
 -- two numbers behind k others, in a list of zeros from there on
@@ -68,8 +69,8 @@ put-behind front a b k m e =
     rw (← e, take-append-seam front (replicate (suc (suc m)) 0), drop-append-add front (replicate (suc (suc m)) 0) 2)
     (sym (append-assoc front (a ∷ b ∷ []) (replicate m 0)))
 
-module _ (n : Names) where
-  pub begins : Holds n 0 (replicate 254 0) 0
+module _ (n : GlueNames) where
+  pub begins : Holds n 0 (replicate baseNumbers 0) 0
   unfolding firstsTo basesOf
   begins = record { few = omega arith; counted = refl; list = refl }
 
@@ -79,10 +80,10 @@ module _ (n : Names) where
       let es = firstsTo n i in
       ap₂ (λ list count. isNew n list count i) (h .list) (h .counted)
       ∙ ap (λ place. isPresent n i && eqb place (length es))
-      (find-front (basesOf n es) (replicate (254 - length es * 2) 0) (n .text) (baseOf (nameAt n i)) (length es) (omega (arith, length-bases n es)))
+      (find-front (basesOf n es) (replicate (baseNumbers - length es * 2) 0) (n .text) (baseOf (nameAt n i)) (length es) (omega (arith, length-bases n es)))
 
   -- bases of entries that are there lie within the text
-  inside : Readable n → (e : ℕ) → e < length (n .present) → getD (n .offsets) e 0 + baseLength (nameAt n e) ≤ length (n .text)
+  inside : GluesReadable n → (e : ℕ) → e < length (n .present) → getD (n .offsets) e 0 + baseLength (nameAt n e) ≤ length (n .text)
   inside r e l =
       let text = n .text in
       let from = getD (n .offsets) e 0 in
@@ -92,17 +93,17 @@ module _ (n : Names) where
       let ends : to ≤ length text = offset-within (length text) (n .offsets) (e + 1) (r .fits) last in
       omega (arith, base-at-most (nameAt n e), length-part text from to rises ends)
 
-  table-searchable : (es : List ℕ) → Readable n → length es ≤ 127 → ((j : ℕ) → j < length es → getD es j 0 < length (n .present)) → Searchable n (basesTable n es) (length es)
+  table-searchable : (es : List ℕ) → GluesReadable n → length es ≤ mostBases → ((j : ℕ) → j < length es → getD es j 0 < length (n .present)) → Searchable (n .text) (basesTable n es) (length es)
   table-searchable es r few there =
       let twice = length-bases n es in
       record {
         few = few;
-        held = rw (length-append (basesOf n es) (replicate (254 - length es * 2) 0)) (omega (arith, twice));
-        within = fit-front (basesOf n es) (replicate (254 - length es * 2) 0) (length (n .text)) (length es) (omega (arith, twice))
+        held = rw (length-append (basesOf n es) (replicate (baseNumbers - length es * 2) 0)) (omega (arith, twice));
+        within = fit-front (basesOf n es) (replicate (baseNumbers - length es * 2) 0) (length (n .text)) (length es) (omega (arith, twice))
             ∙ all-fit (length (n .text)) (basesOf n es) (length es) λ j l. rw (base-offset n es j l, base-size n es j l) (inside r (getD es j 0) (there j l));
       }
 
-  pub searchable : (k c : ℕ) (bases : List ℕ) → Readable n → k ≤ length (n .present) → Holds n k bases c → Searchable n bases c
+  pub searchable : (k c : ℕ) (bases : List ℕ) → GluesReadable n → k ≤ length (n .present) → Holds n k bases c → Searchable (n .text) bases c
   searchable k c bases r l h =
       rw (h .list, h .counted) (table-searchable (firstsTo n k) r (omega (arith, h .few, h .counted)) λ j m. omega (arith, firsts-below n k j m))
 
@@ -112,19 +113,19 @@ module _ (n : Names) where
       let es = firstsTo n k in
       record {
         answered = ap Count (h .counted) ∙ sym (ap (λ v. countAnswer v (length es)) (few-pass es (omega (arith, h .few, h .counted))));
-        list = h .list ∙ sym (ap (basesTable n) (take-all 127 es (omega (arith, h .few, h .counted))));
+        list = h .list ∙ sym (ap (basesTable n) (take-all mostBases es (omega (arith, h .few, h .counted))));
       }
 
   -- one entry more in the table
-  grown : (es : List ℕ) (i : ℕ) → length es < 127
+  grown : (es : List ℕ) (i : ℕ) → length es < mostBases
       → take (length es + length es) (basesTable n es) ++ (getD (n .offsets) i 0 ∷ baseLength (nameAt n i) ∷ drop (length es + length es + 2) (basesTable n es)) ≡ basesTable n (es ++ (i ∷ []))
   unfolding basesOf
   grown es i l =
       let k = length es + length es in
       let a = getD (n .offsets) i 0 in
       let b = baseLength (nameAt n i) in
-      let m = 254 - length (es ++ (i ∷ [])) * 2 in
-      let two : 254 - length es * 2 ≡ suc (suc m) = omega (arith, length-append es (i ∷ [])) in
+      let m = baseNumbers - length (es ++ (i ∷ [])) * 2 in
+      let two : baseNumbers - length es * 2 ≡ suc (suc m) = omega (arith, length-append es (i ∷ [])) in
       ap (λ zeros. take k (basesOf n es ++ replicate zeros 0) ++ (a ∷ b ∷ drop (k + 2) (basesOf n es ++ replicate zeros 0))) two
       ∙ put-behind (basesOf n es) a b k m (omega (arith, length-bases n es))
       ∙ ap (λ front. front ++ replicate m 0) (sym (bases-append n es (i ∷ [])))
@@ -136,27 +137,27 @@ module _ (n : Names) where
         collects (i + 1) c bases (record { few = h .few; counted = h .counted ∙ sym (ap length same); list = h .list ∙ sym (ap (basesTable n) same) })
 
     -- there is room for one base more
-    pub room : (c ≡ 127 → ⊥) → c + c + 2 ≤ length bases
+    pub room : (c ≡ mostBases → ⊥) → c + c + 2 ≤ length bases
     room l =
         let es = firstsTo n i in
-        let zeros = 254 - length es * 2 in
+        let zeros = baseNumbers - length es * 2 in
         rw (h .list, length-append (basesOf n es) (replicate zeros 0), length-replicate {A = ℕ} zeros 0) (omega (arith, length-bases n es, h .few, h .counted))
 
-    pub full : isNew n bases c i ≡ true → c ≡ 127 → Collected n (i + 1) bases (Refused (refusal 15 (i ∷ [])))
+    pub full : isNew n bases c i ≡ true → c ≡ mostBases → Collected n (i + 1) bases (Refused (refusal 15 (i ∷ [])))
     full e l =
         let es = firstsTo n i in
         let one = firsts-more n i (sym (same-new i c bases h) ∙ e) in
-        let size : length es ≡ 127 = sym (h .counted) ∙ l in
+        let size : length es ≡ mostBases = sym (h .counted) ∙ l in
         let refused : countVerdict (firstsTo n (i + 1)) ≡ refuses 15 (i ∷ []) =
-        rw one (many-refused (es ++ (i ∷ [])) (rw (length-append es (i ∷ [])) (omega arith)) ∙ ap (λ entry. refuses 15 (entry ∷ [])) (getD-at es i [] 0 127 size)) in
-        record { answered = rw refused; list = h .list ∙ sym (ap (λ entries. basesTable n (take 127 entries)) one ∙ ap (basesTable n) (take-at es (i ∷ []) 127 size)) }
+        rw one (many-refused (es ++ (i ∷ [])) (rw (length-append es (i ∷ [])) (omega arith)) ∙ ap (λ entry. refuses 15 (entry ∷ [])) (getD-at es i [] 0 mostBases size)) in
+        record { answered = rw refused; list = h .list ∙ sym (ap (λ entries. basesTable n (take mostBases entries)) one ∙ ap (basesTable n) (take-at es (i ∷ []) mostBases size)) }
 
-    pub more : isNew n bases c i ≡ true → (c ≡ 127 → ⊥) → {new : List ℕ} (offset size : ℕ) → offset ≡ getD (n .offsets) i 0 → size ≡ baseLength (nameAt n i)
+    pub more : isNew n bases c i ≡ true → (c ≡ mostBases → ⊥) → {new : List ℕ} (offset size : ℕ) → offset ≡ getD (n .offsets) i 0 → size ≡ baseLength (nameAt n i)
         → new ≡ take (c + c) bases ++ (offset ∷ size ∷ drop (c + c + 2) bases) → Collected n (i + 1) new (Count (c + 1))
     more e l offset size o s w =
         let es = firstsTo n i in
         let one = firsts-more n i (sym (same-new i c bases h) ∙ e) in
-        let below : c < 127 = omega (arith, h .few) in
+        let below : c < mostBases = omega (arith, h .few) in
         let written = rw (o, s, h .list, h .counted) at w in
         collects (i + 1) (c + 1) _
         (record {
@@ -169,7 +170,7 @@ module _ (n : Names) where
   goes-on k d e =
       let es = firstsTo n k in
       let both = is-count (countVerdict es) (length es) (sym e ∙ d .answered) in
-      record { few = omega (arith, both .1, passed-few es (both .0)); counted = both .1; list = d .list ∙ ap (basesTable n) (take-all 127 es (passed-few es (both .0))) }
+      record { few = omega (arith, both .1, passed-few es (both .0)); counted = both .1; list = d .list ∙ ap (basesTable n) (take-all mostBases es (passed-few es (both .0))) }
 
   pub stops : (i k : ℕ) {bases : List ℕ} {r : CountAnswer} {q : Refusal} → Collected n i bases r → r ≡ Refused q → i ≤ k → Collected n k bases r
   stops i k d e l =
@@ -181,5 +182,5 @@ module _ (n : Names) where
       let same = ap countVerdict later ∙ refused-stays es (grow .0) (length es) before in
       record {
         answered = e ∙ sym (ap (λ v. countAnswer v (length (firstsTo n k))) same ∙ any-count (countVerdict es) (length es) (length (firstsTo n k)) before);
-        list = d .list ∙ sym (ap (λ entries. basesTable n (take 127 entries)) later ∙ ap (basesTable n) (take-append-le 127 es (grow .0) (le-of-lt (refused-many es (length es) before))));
+        list = d .list ∙ sym (ap (λ entries. basesTable n (take mostBases entries)) later ∙ ap (basesTable n) (take-append-le mostBases es (grow .0) (le-of-lt (refused-many es (length es) before))));
       }

@@ -13,7 +13,7 @@ use Rattle.text_entries.specs.Entries.{part}
 use Rattle.name_stars.specs.Stars.{baseLength, baseOf}
 use Rattle.name_base_list.specs.Bases.{baseName}
 use Rattle.name_stars.proofs.BeforeStars.{base-at-most}
-use Rattle.name_glues.specs.Names.{Names, nameAt}
+use Rattle.name_glues.specs.Names.{GlueNames, nameAt}
 use Rattle.name_new_bases.specs.Bases.{basesOf, isNew, firstsTo}
 
 -- numbers below k, and perhaps k behind them, are below k + 1
@@ -30,7 +30,7 @@ one-more true es k f j h = ⊎-elim last earlier (eq-or-lt-of-le (le-of-suc-le-s
     earlier : j < length es → getD (es ++ (k ∷ [])) j 0 < suc k
     earlier l = rw (List·getD-append es (k ∷ []) 0 j l) (omega (arith, f j l))
 
-module _ (n : Names) where
+module _ (n : GlueNames) where
   -- two numbers for each entry
   pub length-bases : (es : List ℕ) → length (basesOf n es) ≡ length es * 2
   unfolding basesOf

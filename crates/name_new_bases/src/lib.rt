@@ -3,14 +3,16 @@ ghost use mathlib.Core.Path.{_≡_};
 ghost use Prim.Native.Nat.{_+_, _≤_, _<_};
 ghost use mathlib.Core.List.{_∷_, _++_};
 ghost use lib.ListN.{length, take, drop, replicate};
-ghost use Rattle.name_glues.specs.Names.{names, Readable};
-ghost use Rattle.name_glues.specs.Glues.{Searchable};
+ghost use Rattle.units.specs.Limits.{baseNumbers};
+ghost use Rattle.name_glues.specs.Names.{glueNames, GluesReadable};
+ghost use Rattle.name_base_list.specs.Bases.{Searchable};
 ghost use Rattle.name_new_bases.specs.Bases.{isNew};
 ghost use Rattle.name_new_bases.specs.Steps.{Holds, Collected};
-use name_glues::place_of;
+use name_base_list::base_number;
 use name_stars::base_length;
 use text_entries::entry;
 use units::CountAnswer;
+use units::MOST_BASES;
 use units::Refusal;
 
 // Whether entry i has a name whose base is not in the list.
@@ -22,12 +24,13 @@ fn is_new(
     count: usize,
     i: usize,
 ) -> bool
-    requires { ⌜ Readable (names (now text) (now offsets) (now present)) ⌝ }
-    requires { ⌜ Searchable (names (now text) (now offsets) (now present)) (now bases) count ⌝ }
+    requires { ⌜ GluesReadable (glueNames (now text) (now offsets) (now present)) ⌝ }
+    requires { ⌜ Searchable (now text) (now bases) count ⌝ }
     requires { ⌜ i < length (now present) ⌝ }
-    ensures { λ r. ⌜ r ≡ isNew (names (now (text .entry)) (now (offsets .entry)) (now (present .entry))) (now (bases .entry)) count i ⌝ }
+    ensures { λ r. let n = glueNames (now (text .entry)) (now (offsets .entry)) (now (present .entry)) in
+        ⌜ r ≡ isNew n (now (bases .entry)) count i ⌝ }
 {
-    present[i] == 1 && place_of(text, offsets, present, bases, count, i) == count
+    present[i] == 1 && base_number(text, bases, count, entry(text, offsets, i)) == count
 }
 
 // Writes a base's offset and length behind `count` others.
@@ -48,15 +51,16 @@ fn get_or_generate(
     count: usize,
     i: usize,
 ) -> CountAnswer
-    requires { ⌜ Readable (names (now text) (now offsets) (now present)) ⌝ }
+    requires { ⌜ GluesReadable (glueNames (now text) (now offsets) (now present)) ⌝ }
     requires { ⌜ i < length (now present) ⌝ }
-    requires { ⌜ Holds (names (now text) (now offsets) (now present)) i (now bases) count ⌝ }
-    ensures { λ r. ⌜ Collected (names (now (text .entry)) (now (offsets .entry)) (now (present .entry))) (i + 1) (now (bases .exit)) r ⌝ }
+    requires { ⌜ Holds (glueNames (now text) (now offsets) (now present)) i (now bases) count ⌝ }
+    ensures { λ r. let n = glueNames (now (text .entry)) (now (offsets .entry)) (now (present .entry)) in
+        ⌜ Collected n (i + 1) (now (bases .exit)) r ⌝ }
 {
     if !is_new(text, offsets, present, bases, count, i) {
         return CountAnswer::Count(count);
     }
-    if count == 127 {
+    if count == MOST_BASES {
         return CountAnswer::Refused(Refusal {
             number: 15,
             first: i,
@@ -72,11 +76,12 @@ fn get_or_generate(
     CountAnswer::Count(count + 1)
 }
 
-// The count of bases that the entries bring, and the bases, written into 254 zeros: the first 127 where they are too many.
+// The count of bases that the entries bring, and the bases, written into zeros: as many as there is room for where they are too many.
 pub fn collect(text: &[u8], offsets: &[usize], present: &[u8], bases: &mut [usize]) -> CountAnswer
-    requires { ⌜ Readable (names (now text) (now offsets) (now present)) ⌝ }
-    requires { ⌜ now bases ≡ replicate 254 0 ⌝ }
-    ensures { λ r. ⌜ Collected (names (now (text .entry)) (now (offsets .entry)) (now (present .entry))) (length (now (present .entry))) (now (bases .exit)) r ⌝ }
+    requires { ⌜ GluesReadable (glueNames (now text) (now offsets) (now present)) ⌝ }
+    requires { ⌜ now bases ≡ replicate baseNumbers 0 ⌝ }
+    ensures { λ r. let n = glueNames (now (text .entry)) (now (offsets .entry)) (now (present .entry)) in
+        ⌜ Collected n (length (now (present .entry))) (now (bases .exit)) r ⌝ }
 {
     let mut count = 0;
     let mut i = 0;

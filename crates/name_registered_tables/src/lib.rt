@@ -1,9 +1,10 @@
 // The three tables of a registering, written from the list of bases.
 ghost use mathlib.Core.Path.{_≡_};
 ghost use lib.ListN.{length};
-ghost use Rattle.name_glues.specs.Names.{names, Readable};
+ghost use Rattle.units.specs.Limits.{baseNumbers};
+ghost use Rattle.name_glues.specs.Names.{glueNames, GluesReadable};
 ghost use Rattle.name_glue_tables.specs.Tables.{strandTable, scaffoldTable};
-ghost use Rattle.name_glues.specs.Glues.{Searchable};
+ghost use Rattle.name_base_list.specs.Bases.{Searchable};
 ghost use Rattle.name_register_input.specs.Input.{firstBay, Fitting};
 use name_glue_tables::fill_scaffold;
 use name_glue_tables::fill_strands;
@@ -32,12 +33,15 @@ pub fn write_tables(
     scaffold: &mut [u32],
     bases: &mut [usize],
 )
-    requires { ⌜ Readable (names (now text) (now offsets) (now present)) ⌝ }
-    requires { ⌜ Searchable (names (now text) (now offsets) (now present)) (now list) count ⌝ }
-    requires { ⌜ Fitting (names (now text) (now offsets) (now present)) strands (length (now glues)) (length (now scaffold)) (length (now bases)) ⌝ }
-    requires { ⌜ length (now list) ≡ 254 ⌝ }
-    ensures glues { λ _. ⌜ now (glues .exit) ≡ strandTable (names (now (text .entry)) (now (offsets .entry)) (now (present .entry))) (now (list .entry)) count strands ⌝ }
-    ensures scaffold { λ _. ⌜ now (scaffold .exit) ≡ scaffoldTable (names (now (text .entry)) (now (offsets .entry)) (now (present .entry))) (now (list .entry)) count (firstBay strands) (length (now (scaffold .entry))) ⌝ }
+    requires { ⌜ GluesReadable (glueNames (now text) (now offsets) (now present)) ⌝ }
+    requires { ⌜ Searchable (now text) (now list) count ⌝ }
+    requires { let n = glueNames (now text) (now offsets) (now present) in
+        ⌜ Fitting n strands (length (now glues)) (length (now scaffold)) (length (now bases)) ⌝ }
+    requires { ⌜ length (now list) ≡ baseNumbers ⌝ }
+    ensures glues { λ _. let n = glueNames (now (text .entry)) (now (offsets .entry)) (now (present .entry)) in
+        ⌜ now (glues .exit) ≡ strandTable n (now (list .entry)) count strands ⌝ }
+    ensures scaffold { λ _. let n = glueNames (now (text .entry)) (now (offsets .entry)) (now (present .entry)) in
+        ⌜ now (scaffold .exit) ≡ scaffoldTable n (now (list .entry)) count (firstBay strands) (length (now (scaffold .entry))) ⌝ }
     ensures bases { λ _. ⌜ now (bases .exit) ≡ now (list .entry) ⌝ }
 {
     fill_strands(strands, text, offsets, present, list, count, glues);

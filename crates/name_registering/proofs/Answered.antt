@@ -5,6 +5,7 @@ use mathlib.Core.Bool.{not}
 use mathlib.Core.List.{List, [], _∷_}
 use lib.Dec.{ltb}
 use lib.ListN.{length, getD}
+use Rattle.units.specs.Limits.{mostGlues, mostBases}
 use Rattle.units.specs.declared.Refusal.{Refusal}
 use Rattle.units.specs.declared.Check.{Check}
 use Rattle.units.specs.declared.Check.the-variants.{Passed, Refused as Check·Refused}
@@ -14,9 +15,9 @@ use Rattle.units.specs.Refusals.{passes, check, Prints}
 use Rattle.units.specs.Answers.{countRefusal}
 use Rattle.units.proofs.Answers.{a-count, refused, given}
 use Rattle.units.proofs.Verdicts.{Tabled, tabled-if, tabled-then, passed, refused-first, refused-keeps}
-use Rattle.name_glues.specs.Names.{Names}
-use Rattle.name_scaffold_stars.specs.Starred.{firstStarred, starsVerdict}
-use Rattle.name_register_input.specs.Input.{Request, request, firstBay, bayCount, isSized, isReadable, sizesVerdict, namesVerdict, inputVerdict}
+use Rattle.name_glues.specs.Names.{GlueNames}
+use Rattle.name_glues.specs.Starred.{firstStarred, starsVerdict}
+use Rattle.name_register_input.specs.Input.{Request, request, firstBay, bayCount, isSized, isReadable, requestSizes, requestReading, inputVerdict}
 use Rattle.name_registering.specs.Register.{firstsOf, registeredVerdict, registerVerdict, registerAnswer, gluesAfter, scaffoldAfter, basesAfter}
 use Rattle.name_new_bases.specs.Bases.{countVerdict}
 use Rattle.name_registering.specs.Steps.{Registered}
@@ -25,13 +26,13 @@ use Rattle.name_register_input.proofs.Passed.{bays}
 -- every refusal has the values of its row
 input-tabled : (q : Request) → Tabled (inputVerdict q)
 input-tabled q =
-    tabled-then (sizesVerdict q) (namesVerdict (q .names)) (tabled-if (not (isSized q)) 1 [] refl) (tabled-if (not (isReadable (q .names))) 17 [] refl)
+    tabled-then (requestSizes q) (requestReading (q .names)) (tabled-if (not (isSized q)) 1 [] refl) (tabled-if (not (isReadable (q .names))) 17 [] refl)
 
 registered-tabled : (q : Request) → Tabled (registeredVerdict (q .names) (q .strands) (bayCount q))
 registered-tabled q =
     let es = firstsOf (q .names) (q .strands) (bayCount q) in
-    let bay = firstStarred (q .names) (firstBay (q .strands)) 0 (bayCount q) in
-    tabled-then (countVerdict es) (starsVerdict (q .names) (firstBay (q .strands)) (bayCount q)) (tabled-if (ltb 256 (length es * 2 + 1)) 15 (getD es 127 0 ∷ []) refl) (tabled-if (ltb bay (bayCount q)) 16 (bay ∷ []) refl)
+    let bay = firstStarred (q .names) (firstBay (q .strands)) (bayCount q) in
+    tabled-then (countVerdict es) (starsVerdict (q .names) (firstBay (q .strands)) (bayCount q)) (tabled-if (ltb mostGlues (length es * 2 + 1)) 15 (getD es mostBases 0 ∷ []) refl) (tabled-if (ltb bay (bayCount q)) 16 (bay ∷ []) refl)
 
 register-tabled : (q : Request) → Tabled (registerVerdict q)
 register-tabled q = tabled-then (inputVerdict q) (registeredVerdict (q .names) (q .strands) (bayCount q)) (input-tabled q) (registered-tabled q)
@@ -43,7 +44,7 @@ Answered q answer glues scaffold bases glues' scaffold' bases' =
     × ((answer ≡ registerAnswer q) × ((glues' ≡ gluesAfter q glues) × ((scaffold' ≡ scaffoldAfter q scaffold) × (bases' ≡ basesAfter q bases))))
 
 -- the request for these tables
-module _ (rows cols strands : ℕ) (n : Names) (glues scaffold bases : List ℕ) where
+module _ (rows cols strands : ℕ) (n : GlueNames) (glues scaffold bases : List ℕ) where
   abbrev pub asked : Request
   asked = request rows cols strands n (length glues) (length scaffold) (length bases)
 

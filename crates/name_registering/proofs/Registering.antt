@@ -4,6 +4,7 @@ use mathlib.Core.Path.{_≡_, refl, ap, ap₂, sym, _∙_, subst}
 use mathlib.Core.List.{List}
 use native.Mathlib.Omega.{arith}
 use lib.ListN.{length, replicate, length-append, length-replicate}
+use Rattle.units.specs.Limits.{baseNumbers}
 use Rattle.units.specs.declared.Refusal.{Refusal}
 use Rattle.units.specs.declared.Check.{Check}
 use Rattle.units.specs.declared.Check.the-variants.{Passed, Refused as Check·Refused}
@@ -13,11 +14,11 @@ use Rattle.units.specs.Refusals.{Verdict, passes, refuses, _▷_, ifPasses, che
 use Rattle.units.specs.Answers.{countAnswer}
 use Rattle.units.proofs.Answers.{a-count, refused}
 use Rattle.units.proofs.Verdicts.{passed, refused-keeps}
-use Rattle.name_glues.specs.Names.{Names, Readable}
+use Rattle.name_glues.specs.Names.{GlueNames, GluesReadable}
 use Rattle.name_new_bases.specs.Bases.{basesOf, countVerdict}
 use Rattle.name_glue_tables.specs.Tables.{strandTable, scaffoldTable}
-use Rattle.name_glues.specs.Glues.{Searchable}
-use Rattle.name_scaffold_stars.specs.Starred.{starsVerdict}
+use Rattle.name_base_list.specs.Bases.{Searchable}
+use Rattle.name_glues.specs.Starred.{starsVerdict}
 use Rattle.name_register_input.specs.Input.{firstBay, Fitting}
 use Rattle.name_registering.specs.Register.{firstsOf, registeredVerdict, registeredStrands, registeredScaffold, registeredBases}
 use Rattle.name_new_bases.specs.Steps.{Holds, Collected}
@@ -34,7 +35,7 @@ kept-through : (v w : Verdict) (m : ℕ) {q : Refusal} (new old : List ℕ) → 
 kept-through passes w m new old e = cc
 kept-through (refuses number values) w m new old e = refl
 
-module _ (n : Names) (strands : ℕ) (glues scaffold bases : List ℕ) (f : Fitting n strands (length glues) (length scaffold) (length bases)) where
+module _ (n : GlueNames) (strands : ℕ) (glues scaffold bases : List ℕ) (f : Fitting n strands (length glues) (length scaffold) (length bases)) where
   -- 15: a base too many
   pub too-many : {list : List ℕ} {answer : CountAnswer} {q : Refusal} → Collected n (length (n .present)) list answer → answer ≡ Refused q
       → Registered n strands (Refused q) glues scaffold bases glues scaffold bases
@@ -61,13 +62,13 @@ module _ (n : Names) (strands : ℕ) (glues scaffold bases : List ℕ) (f : Fitt
         let es = firstsOf n strands (length scaffold) in
         rw (few-pass es (omega (arith, held .few, held .counted)))
 
-    pub list-searchable : Readable n → Searchable n list c
+    pub list-searchable : GluesReadable n → Searchable (n .text) list c
     list-searchable r = searchable n (length (n .present)) c list r (omega arith) (goes-on n (length (n .present)) d e)
 
-    pub list-long : length list ≡ 254
+    pub list-long : length list ≡ baseNumbers
     list-long =
         let es = firstsOf n strands (length scaffold) in
-        let zeros = 254 - length es * 2 in
+        let zeros = baseNumbers - length es * 2 in
         ap length (held .list)
         ∙ length-append (basesOf n es) (replicate zeros 0)
         ∙ omega (arith, length-bases n es, length-replicate {A = ℕ} zeros 0, held .few, held .counted)

@@ -3,14 +3,15 @@ ghost use mathlib.Core.Path.{_≡_};
 ghost use lib.ListN.{length};
 ghost use Rattle.units.specs.Refusals.{Prints};
 ghost use Rattle.units.specs.Answers.{countRefusal};
-ghost use Rattle.name_glues.specs.Names.{names, Readable};
+ghost use Rattle.name_glues.specs.Names.{glueNames, GluesReadable};
 ghost use Rattle.name_register_input.specs.Input.{request, Fitting};
 ghost use Rattle.name_registering.specs.Register.{registerVerdict, registerAnswer, gluesAfter, scaffoldAfter, basesAfter};
 ghost use Rattle.name_registering.specs.Steps.{Registered};
+use name_glues::check_stars;
 use name_new_bases::collect;
 use name_register_input::check_input;
 use name_registered_tables::write_tables;
-use name_scaffold_stars::check_stars;
+use units::BASE_NUMBERS;
 use units::Check;
 use units::CountAnswer;
 
@@ -24,11 +25,13 @@ fn register_names(
     scaffold: &mut [u32],
     bases: &mut [usize],
 ) -> CountAnswer
-    requires { ⌜ Readable (names (now text) (now offsets) (now present)) ⌝ }
-    requires { ⌜ Fitting (names (now text) (now offsets) (now present)) strands (length (now glues)) (length (now scaffold)) (length (now bases)) ⌝ }
-    ensures { λ r. ⌜ Registered (names (now (text .entry)) (now (offsets .entry)) (now (present .entry))) strands r (now (glues .entry)) (now (scaffold .entry)) (now (bases .entry)) (now (glues .exit)) (now (scaffold .exit)) (now (bases .exit)) ⌝ }
+    requires { ⌜ GluesReadable (glueNames (now text) (now offsets) (now present)) ⌝ }
+    requires { let n = glueNames (now text) (now offsets) (now present) in
+        ⌜ Fitting n strands (length (now glues)) (length (now scaffold)) (length (now bases)) ⌝ }
+    ensures { λ r. let n = glueNames (now (text .entry)) (now (offsets .entry)) (now (present .entry)) in
+        ⌜ Registered n strands r (now (glues .entry)) (now (scaffold .entry)) (now (bases .entry)) (now (glues .exit)) (now (scaffold .exit)) (now (bases .exit)) ⌝ }
 {
-    let mut list = [0usize; 254];
+    let mut list = [0usize; BASE_NUMBERS];
     let count = match collect(text, offsets, present, &mut list) {
         CountAnswer::Refused(r) => return CountAnswer::Refused(r),
         CountAnswer::Count(n) => n,
@@ -63,11 +66,21 @@ pub fn register(
     scaffold: &mut [u32],
     bases: &mut [usize],
 ) -> CountAnswer
-    ensures refusal { λ r. ⌜ Prints (countRefusal r) (registerVerdict (request rows cols strands (names (now (text .entry)) (now (offsets .entry)) (now (present .entry))) (length (now («strand_glues» .entry))) (length (now (scaffold .entry))) (length (now (bases .entry))))) ⌝ }
-    ensures answer { λ r. ⌜ r ≡ registerAnswer (request rows cols strands (names (now (text .entry)) (now (offsets .entry)) (now (present .entry))) (length (now («strand_glues» .entry))) (length (now (scaffold .entry))) (length (now (bases .entry)))) ⌝ }
-    ensures glues { λ _. ⌜ now («strand_glues» .exit) ≡ gluesAfter (request rows cols strands (names (now (text .entry)) (now (offsets .entry)) (now (present .entry))) (length (now («strand_glues» .entry))) (length (now (scaffold .entry))) (length (now (bases .entry)))) (now («strand_glues» .entry)) ⌝ }
-    ensures scaffold { λ _. ⌜ now (scaffold .exit) ≡ scaffoldAfter (request rows cols strands (names (now (text .entry)) (now (offsets .entry)) (now (present .entry))) (length (now («strand_glues» .entry))) (length (now (scaffold .entry))) (length (now (bases .entry)))) (now (scaffold .entry)) ⌝ }
-    ensures bases { λ _. ⌜ now (bases .exit) ≡ basesAfter (request rows cols strands (names (now (text .entry)) (now (offsets .entry)) (now (present .entry))) (length (now («strand_glues» .entry))) (length (now (scaffold .entry))) (length (now (bases .entry)))) (now (bases .entry)) ⌝ }
+    ensures refusal { λ r. let n = glueNames (now (text .entry)) (now (offsets .entry)) (now (present .entry)) in
+        let q = request rows cols strands n (length (now («strand_glues» .entry))) (length (now (scaffold .entry))) (length (now (bases .entry))) in
+        ⌜ Prints (countRefusal r) (registerVerdict q) ⌝ }
+    ensures answer { λ r. let n = glueNames (now (text .entry)) (now (offsets .entry)) (now (present .entry)) in
+        let q = request rows cols strands n (length (now («strand_glues» .entry))) (length (now (scaffold .entry))) (length (now (bases .entry))) in
+        ⌜ r ≡ registerAnswer q ⌝ }
+    ensures glues { λ _. let n = glueNames (now (text .entry)) (now (offsets .entry)) (now (present .entry)) in
+        let q = request rows cols strands n (length (now («strand_glues» .entry))) (length (now (scaffold .entry))) (length (now (bases .entry))) in
+        ⌜ now («strand_glues» .exit) ≡ gluesAfter q (now («strand_glues» .entry)) ⌝ }
+    ensures scaffold { λ _. let n = glueNames (now (text .entry)) (now (offsets .entry)) (now (present .entry)) in
+        let q = request rows cols strands n (length (now («strand_glues» .entry))) (length (now (scaffold .entry))) (length (now (bases .entry))) in
+        ⌜ now (scaffold .exit) ≡ scaffoldAfter q (now (scaffold .entry)) ⌝ }
+    ensures bases { λ _. let n = glueNames (now (text .entry)) (now (offsets .entry)) (now (present .entry)) in
+        let q = request rows cols strands n (length (now («strand_glues» .entry))) (length (now (scaffold .entry))) (length (now (bases .entry))) in
+        ⌜ now (bases .exit) ≡ basesAfter q (now (bases .entry)) ⌝ }
 {
     match check_input(
         rows,

@@ -1,1 +1,2 @@
 pub mod EachSeed
+pub mod Sized

@@ -1,1 +1,3 @@
 pub mod Each
+pub mod Strands
+pub mod Sizes

@@ -10,10 +10,10 @@ use lib.Dec.{ltb}
 use lib.ListN.{length, getD, take, drop, set, length-append, drop-of-length-le, List·getD-append}
 use lib.Seq.{sets-eq, take-at, drop-append-add, drop-drop, getD-append-add}
 use borrow.Author.Tests.{ltb-true, ltb-false}
-use Rattle.name_strands.specs.Names.{Names}
-use Rattle.name_seed_sizes.specs.Sizes.{SeedList}
+use Rattle.name_strands.specs.Names.{StrandNames}
+use Rattle.name_seed_checks.specs.Sizes.{SeedList}
 use Rattle.name_seed_checks.specs.Each.{seedRow, seedCol, seedName}
-use Rattle.name_seed_strands.specs.Strands.{seedStrand}
+use Rattle.name_seed_checks.specs.Strands.{seedStrand}
 use Rattle.name_seeds.specs.Seeds.{seedTriples}
 
 -- three stores in a row
@@ -22,18 +22,18 @@ pub three-stores : (l : List ℕ) (k row col strand : ℕ) → 3 * k + 3 ≤ len
 three-stores l k row col strand h = rw (add-one (3 * k), add-two (3 * k)) (sets-eq (row ∷ col ∷ strand ∷ []) l (3 * k) h ∙ append-assoc (take (3 * k) l) (row ∷ col ∷ strand ∷ []) (drop (3 * k + 3) l))
 
 -- k triples take 3k places
-pub length-triples : (n : Names) (s : SeedList) (k : ℕ) → length (seedTriples n s k) ≡ 3 * k
+pub length-triples : (n : StrandNames) (s : SeedList) (k : ℕ) → length (seedTriples n s k) ≡ 3 * k
 unfolding seedTriples
 length-triples n s zero = refl
 length-triples n s (suc k) = length-append (seedTriples n s k) _ ∙ omega (arith, length-triples n s k)
 
-next-triple : (n : Names) (s : SeedList) (k : ℕ)
+next-triple : (n : StrandNames) (s : SeedList) (k : ℕ)
     → seedTriples n s (k + 1) ≡ seedTriples n s k ++ (seedRow s k ∷ seedCol s k ∷ seedStrand n (seedName s k) ∷ [])
 unfolding seedTriples
 next-triple n s k = ap (seedTriples n s) (add-one k)
 
 -- one triple more
-pub triples-more : (n : Names) (s : SeedList) (old : List ℕ) (k : ℕ)
+pub triples-more : (n : StrandNames) (s : SeedList) (old : List ℕ) (k : ℕ)
     → let now = seedTriples n s k ++ drop (3 * k) old in
     take (3 * k) now ++ seedRow s k ∷ seedCol s k ∷ seedStrand n (seedName s k) ∷ drop (3 * k + 3) now
     ≡ seedTriples n s (k + 1) ++ drop (3 * (k + 1)) old
@@ -46,13 +46,13 @@ triples-more n s old k =
     rw (take-at done (drop (3 * k) old) (3 * k) size, rest, three, next-triple n s k) (sym (append-assoc done _ (drop (3 * k + 3) old)))
 
 -- a turn of the filling, and its end
-pub fill-turn : (n : Names) (s : SeedList) (old front next : List ℕ) (k strand : ℕ)
+pub fill-turn : (n : StrandNames) (s : SeedList) (old front next : List ℕ) (k strand : ℕ)
     → front ≡ seedTriples n s k ++ drop (3 * k) old → strand ≡ seedStrand n (seedName s k)
     → next ≡ take (3 * k) front ++ seedRow s k ∷ seedCol s k ∷ strand ∷ drop (3 * k + 3) front
     → next ≡ seedTriples n s (k + 1) ++ drop (3 * (k + 1)) old
 fill-turn n s old front next k strand e f g = g ∙ rw (e, f) (triples-more n s old k)
 
-pub filled : (n : Names) (s : SeedList) (old front : List ℕ) (k count : ℕ) → k ≤ count → count ≤ k → length old ≡ 3 * count
+pub filled : (n : StrandNames) (s : SeedList) (old front : List ℕ) (k count : ℕ) → k ≤ count → count ≤ k → length old ≡ 3 * count
     → front ≡ seedTriples n s k ++ drop (3 * k) old → front ≡ seedTriples n s count
 filled n s old front k count h g size e =
     let all : k ≡ count = omega arith in
@@ -60,7 +60,7 @@ filled n s old front k count h g size e =
     e ∙ rw (all, none) (append-nil (seedTriples n s count))
 
 -- what stands in the table, place by place: row, column and strand of seed k
-pub record Triple (n : Names) (s : SeedList) (table : List ℕ) (k : ℕ) : Type 0 where
+pub record Triple (n : StrandNames) (s : SeedList) (table : List ℕ) (k : ℕ) : Type 0 where
   pub row : getD table (3 * k) 0 ≡ seedRow s k
   pub col : getD table (3 * k + 1) 0 ≡ seedCol s k
   pub strand : getD table (3 * k + 2) 0 ≡ seedStrand n (seedName s k)
@@ -69,7 +69,7 @@ pub record Triple (n : Names) (s : SeedList) (table : List ℕ) (k : ℕ) : Type
 in-last : (front last : List ℕ) (i j : ℕ) → length front ≡ i → getD (front ++ last) (i + j) 0 ≡ getD last j 0
 in-last front last i j size = ap (λ m. getD (front ++ last) (m + j) 0) (sym size) ∙ getD-append-add front last j 0
 
-pub each-triple : (n : Names) (s : SeedList) (count k : ℕ) → k < count → Triple n s (seedTriples n s count) k
+pub each-triple : (n : StrandNames) (s : SeedList) (count k : ℕ) → k < count → Triple n s (seedTriples n s count) k
 unfolding seedTriples
 each-triple n s zero k h = absurd (not-suc-le-zero h)
 each-triple n s (suc count) k h = either (ltb k count) refl (each-triple n s count k)

@@ -1,19 +1,24 @@
 // Seeds that are given by name.
 ghost use mathlib.Core.Path.{_≡_};
 ghost use lib.ListN.{length, take, drop};
+ghost use Rattle.units.specs.Limits.{mostSide};
 ghost use Rattle.units.specs.Refusals.{check, Prints};
-ghost use Rattle.name_strands.specs.Names.{names, Readable};
-ghost use Rattle.name_seed_sizes.specs.Sizes.{seedList, seedCount, SeedsReadable};
+ghost use Rattle.name_strands.specs.Names.{strandNames, StrandsReadable};
+ghost use Rattle.name_seed_checks.specs.Sizes.{seedList, seedCount, SeedsReadable};
 ghost use Rattle.name_seeds.specs.Seeds.{seedsVerdict, seedsAfter, seedTriples};
 ghost use mathlib.Core.List.{_∷_, _++_};
 ghost use Prim.Native.Nat.{_<_, ℕ, _+_, _*_, _≤_};
 ghost use Rattle.name_seed_checks.specs.Each.{seedRow, seedCol};
 use name_seed_checks::check_seeds;
-use name_seed_checks::refused;
-use name_seed_sizes::all_read;
-use name_seed_sizes::all_sized;
-use name_seed_strands::seed_strand;
+use name_seed_checks::seed_strand;
+use name_seed_checks::seeds_sized;
+use name_strands::names_read;
+use name_strands::names_sized;
+use text_entries::offsets_fit;
 use units::Check;
+use units::MOST_SIDE;
+use units::from_one_to;
+use units::refused;
 
 // Triple k of the table.
 fn put_seed(seeds: &mut [u32], k: usize, row: u32, col: u32, strand: u32)
@@ -36,12 +41,12 @@ fn fill_seeds(
     seed_offsets: &[usize],
     seeds: &mut [u32],
 )
-    requires { ⌜ Readable (names (now text) (now offsets) (now present) (now numerals)) ⌝ }
+    requires { ⌜ StrandsReadable (strandNames (now text) (now offsets) (now present) (now numerals)) ⌝ }
     requires { ⌜ SeedsReadable (seedList (now places) (now «seed_text») (now «seed_offsets»)) ⌝ }
     requires { let s = seedList (now places) (now «seed_text») (now «seed_offsets») in
-        ⌜ ((k : ℕ) → k < seedCount s → (seedRow s k < 32) × (seedCol s k < 32)) ⌝ }
+        ⌜ ((k : ℕ) → k < seedCount s → (seedRow s k < mostSide) × (seedCol s k < mostSide)) ⌝ }
     requires { ⌜ length (now seeds) ≡ 3 * seedCount (seedList (now places) (now «seed_text») (now «seed_offsets»)) ⌝ }
-    ensures { λ _. let n = names (now (text .entry)) (now (offsets .entry)) (now (present .entry)) (now (numerals .entry)) in
+    ensures { λ _. let n = strandNames (now (text .entry)) (now (offsets .entry)) (now (present .entry)) (now (numerals .entry)) in
         let s = seedList (now (places .entry)) (now («seed_text» .entry)) (now («seed_offsets» .entry)) in
         ⌜ now (seeds .exit) ≡ seedTriples n s (seedCount s) ⌝ }
 {
@@ -55,55 +60,7 @@ fn fill_seeds(
     }
 }
 
-// All of 1, then all of 17, then seed by seed.
-fn check_named_seeds(
-    rows: usize,
-    cols: usize,
-    strands: usize,
-    text: &[u8],
-    offsets: &[usize],
-    present: &[u8],
-    numerals: &[u8],
-    places: &[usize],
-    seed_text: &[u8],
-    seed_offsets: &[usize],
-    table: usize,
-) -> Check
-    ensures { λ r. let n = names (now (text .entry)) (now (offsets .entry)) (now (present .entry)) (now (numerals .entry)) in
-        let s = seedList (now (places .entry)) (now («seed_text» .entry)) (now («seed_offsets» .entry)) in
-        ⌜ r ≡ check (seedsVerdict rows cols strands n s table) ⌝ }
-{
-    if !all_sized(
-        rows,
-        cols,
-        strands,
-        text,
-        offsets,
-        present,
-        places,
-        seed_text,
-        seed_offsets,
-        table,
-    ) {
-        return refused(1, 0);
-    }
-    if !all_read(text, offsets, present, numerals, seed_text, seed_offsets) {
-        return refused(17, 0);
-    }
-    check_seeds(
-        rows,
-        cols,
-        text,
-        offsets,
-        present,
-        numerals,
-        places,
-        seed_text,
-        seed_offsets,
-    )
-}
-
-// Seeds as triples row, column, strand, each strand being the first tile whose shown name is the seed's.
+// All of 1, then all of 17, then seed by seed; where nothing is refused, triples row, column, strand, each strand being the first tile whose shown name is the seed's.
 pub fn seeds_by_name(
     rows: usize,
     cols: usize,
@@ -117,20 +74,28 @@ pub fn seeds_by_name(
     seed_offsets: &[usize],
     seeds: &mut [u32],
 ) -> Check
-    ensures refusal { λ r. let n = names (now (text .entry)) (now (offsets .entry)) (now (present .entry)) (now (numerals .entry)) in
+    ensures refusal { λ r. let n = strandNames (now (text .entry)) (now (offsets .entry)) (now (present .entry)) (now (numerals .entry)) in
         let s = seedList (now (places .entry)) (now («seed_text» .entry)) (now («seed_offsets» .entry)) in
         ⌜ Prints r (seedsVerdict rows cols strands n s (length (now (seeds .entry)))) ⌝ }
-    ensures answer { λ r. let n = names (now (text .entry)) (now (offsets .entry)) (now (present .entry)) (now (numerals .entry)) in
+    ensures answer { λ r. let n = strandNames (now (text .entry)) (now (offsets .entry)) (now (present .entry)) (now (numerals .entry)) in
         let s = seedList (now (places .entry)) (now («seed_text» .entry)) (now («seed_offsets» .entry)) in
         ⌜ r ≡ check (seedsVerdict rows cols strands n s (length (now (seeds .entry)))) ⌝ }
-    ensures table { λ r. let n = names (now (text .entry)) (now (offsets .entry)) (now (present .entry)) (now (numerals .entry)) in
+    ensures table { λ r. let n = strandNames (now (text .entry)) (now (offsets .entry)) (now (present .entry)) (now (numerals .entry)) in
         let s = seedList (now (places .entry)) (now («seed_text» .entry)) (now («seed_offsets» .entry)) in
         ⌜ now (seeds .exit) ≡ seedsAfter rows cols strands n s (now (seeds .entry)) ⌝ }
 {
-    match check_named_seeds(
+    let grid = from_one_to(MOST_SIDE, rows) & from_one_to(MOST_SIDE, cols);
+    let names = names_sized(strands, text, offsets, present);
+    if !(grid & (names & seeds_sized(places, seed_text, seed_offsets, seeds.len()))) {
+        return refused(1);
+    }
+    let named = names_read(text, offsets, present, numerals);
+    if !(named & offsets_fit(seed_offsets, seed_text.len())) {
+        return refused(17);
+    }
+    match check_seeds(
         rows,
         cols,
-        strands,
         text,
         offsets,
         present,
@@ -138,21 +103,19 @@ pub fn seeds_by_name(
         places,
         seed_text,
         seed_offsets,
-        seeds.len(),
     ) {
-        Check::Refused(r) => Check::Refused(r),
-        Check::Passed => {
-            fill_seeds(
-                text,
-                offsets,
-                present,
-                numerals,
-                places,
-                seed_text,
-                seed_offsets,
-                seeds,
-            );
-            Check::Passed
-        }
+        Check::Refused(r) => return Check::Refused(r),
+        Check::Passed => (),
     }
+    fill_seeds(
+        text,
+        offsets,
+        present,
+        numerals,
+        places,
+        seed_text,
+        seed_offsets,
+        seeds,
+    );
+    Check::Passed
 }

@@ -4,9 +4,9 @@ use mathlib.Core.Bool.{cond}
 use mathlib.Core.List.{List}
 use lib.Dec.{eqb}
 use lib.ListN.{getD}
-use Rattle.text_entries.specs.Entries.{part}
+use Rattle.text_entries.specs.Entries.{part, after}
 use Rattle.name_strands.specs.Numerals.{numeralStart, numeralEnd}
-use Rattle.name_strands.specs.Names.{Names}
+use Rattle.name_strands.specs.Names.{StrandNames}
 
 -- A part of one of the two lent texts, from one place up to another.
 pub data Part : Type 0 where
@@ -14,13 +14,9 @@ pub data Part : Type 0 where
   ofNumerals : (from to : ℕ) → Part
 
 -- its bytes
-abbrev pub bytesOf : Names → Part → List ℕ
+abbrev pub bytesOf : StrandNames → Part → List ℕ
 bytesOf n (ofText from to) = part (n .text) from to
 bytesOf n (ofNumerals from to) = part (n .numerals) from to
-
--- n bytes after a place in memory, which is a block and an offset in it
-abbrev pub after : ℕ × ℕ → ℕ → ℕ × ℕ
-after place n = (place .0, n + place .1)
 
 -- where a part begins, the two texts beginning at these places
 abbrev pub beginsAt : (text numerals : ℕ × ℕ) → Part → ℕ × ℕ
@@ -28,12 +24,12 @@ beginsAt text numerals (ofText from to) = after text from
 beginsAt text numerals (ofNumerals from to) = after numerals from
 
 -- the part that is shown for a tile: its name where it has one, else the digits of its place in the list of strands, which is one less
-abbrev pub shownPart : Names → ℕ → Part
+abbrev pub shownPart : StrandNames → ℕ → Part
 shownPart n tile =
     cond (eqb (getD (n .present) tile 0) 1)
     (ofText (getD (n .offsets) tile 0) (getD (n .offsets) (tile + 1) 0))
     (ofNumerals (numeralStart (tile - 1)) (numeralEnd (tile - 1)))
 
 -- the name shown for a tile
-unfoldable pub shownName : Names → ℕ → List ℕ
+unfoldable pub shownName : StrandNames → ℕ → List ℕ
 shownName n tile = bytesOf n (shownPart n tile)

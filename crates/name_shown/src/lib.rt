@@ -1,25 +1,21 @@
 // The part of a lent text that is shown for a tile.
 ghost use mathlib.Core.Path.{_≡_};
-ghost use mathlib.Core.Bool.{true};
-ghost use Prim.Native.Nat.{_+_, _<_};
-ghost use lib.ListN.{length, getD};
+ghost use Prim.Native.Nat.{_+_, _*_, _<_, _≤_};
+ghost use lib.ListN.{length};
 ghost use denote.Ref.{ptr};
-ghost use Rattle.text_entries.specs.Entries.{part, entryOf, offsetsFit, sameBytes};
+ghost use Rattle.text_entries.specs.Entries.{part, after, sameBytes};
 ghost use Rattle.name_strands.specs.Numerals.{numeralStart, numeralEnd};
-ghost use Rattle.name_strands.specs.Names.{names, Readable};
-ghost use Rattle.name_shown.specs.Shown.{after, beginsAt, shownPart, shownName};
+ghost use Rattle.name_strands.specs.Names.{strandNames, StrandsReadable};
+ghost use Rattle.name_shown.specs.Shown.{beginsAt, shownPart, shownName};
+use text_entries::entry;
 use text_entries::same_bytes;
 
-// Entry i of a text, as `entries` gives it, and where in the text it lies.
-fn entry<'a>(text: &'a [u8], offsets: &[usize], i: usize) -> &'a [u8]
-    requires { ⌜ i + 1 < length (now offsets) ⌝ }
-    requires { ⌜ offsetsFit (length (now text)) (now offsets) ≡ true ⌝ }
-    ensures bytes { λ r. ⌜ now r ≡ entryOf (now (text .entry)) (now (offsets .entry)) i ⌝ }
-    ensures place { λ r. ⌜ ptr r ≡ after (ptr (text .entry)) (getD (now (offsets .entry)) i 0) ⌝ }
+// Where the digits that are shown for i begin: at the second of the two below 10.
+fn numeral_start(i: usize) -> usize
+    requires { ⌜ i < 63 ⌝ }
+    ensures { λ r. ⌜ (r ≡ numeralStart i) × (r ≤ 2 * i + 1) ⌝ }
 {
-    let from = offsets[i];
-    let to = offsets[i + 1];
-    &text[from..to]
+    if i < 10 { 2 * i + 1 } else { 2 * i }
 }
 
 // The digits that are shown for i.
@@ -28,12 +24,8 @@ fn numeral(numerals: &[u8], i: usize) -> &[u8]
     ensures bytes { λ r. ⌜ now r ≡ part (now (numerals .entry)) (numeralStart i) (numeralEnd i) ⌝ }
     ensures place { λ r. ⌜ ptr r ≡ after (ptr (numerals .entry)) (numeralStart i) ⌝ }
 {
+    let start = numeral_start(i);
     let end = 2 * i + 2;
-    if i < 10 {
-        let start = 2 * i + 1;
-        return &numerals[start..end];
-    }
-    let start = 2 * i;
     &numerals[start..end]
 }
 
@@ -45,11 +37,11 @@ pub fn shown<'a>(
     numerals: &'a [u8],
     tile: usize,
 ) -> &'a [u8]
-    requires { ⌜ Readable (names (now text) (now offsets) (now present) (now numerals)) ⌝ }
+    requires { ⌜ StrandsReadable (strandNames (now text) (now offsets) (now present) (now numerals)) ⌝ }
     requires { ⌜ tile < length (now present) ⌝ }
-    ensures bytes { λ r. let n = names (now (text .entry)) (now (offsets .entry)) (now (present .entry)) (now (numerals .entry)) in
+    ensures bytes { λ r. let n = strandNames (now (text .entry)) (now (offsets .entry)) (now (present .entry)) (now (numerals .entry)) in
         ⌜ now r ≡ shownName n tile ⌝ }
-    ensures place { λ r. let n = names (now (text .entry)) (now (offsets .entry)) (now (present .entry)) (now (numerals .entry)) in
+    ensures place { λ r. let n = strandNames (now (text .entry)) (now (offsets .entry)) (now (present .entry)) (now (numerals .entry)) in
         ⌜ ptr r ≡ beginsAt (ptr (text .entry)) (ptr (numerals .entry)) (shownPart n tile) ⌝ }
 {
     if present[tile] == 1 {
@@ -67,9 +59,9 @@ pub fn shows(
     tile: usize,
     name: &[u8],
 ) -> bool
-    requires { ⌜ Readable (names (now text) (now offsets) (now present) (now numerals)) ⌝ }
+    requires { ⌜ StrandsReadable (strandNames (now text) (now offsets) (now present) (now numerals)) ⌝ }
     requires { ⌜ tile < length (now present) ⌝ }
-    ensures { λ r. let n = names (now (text .entry)) (now (offsets .entry)) (now (present .entry)) (now (numerals .entry)) in
+    ensures { λ r. let n = strandNames (now (text .entry)) (now (offsets .entry)) (now (present .entry)) (now (numerals .entry)) in
         ⌜ r ≡ sameBytes (shownName n tile) (now (name .entry)) ⌝ }
 {
     if present[tile] == 1 {

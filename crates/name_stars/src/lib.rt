@@ -2,6 +2,7 @@
 ghost use mathlib.Core.Path.{_≡_};
 ghost use Prim.Native.Nat.{_≤_};
 ghost use lib.ListN.{length};
+ghost use denote.Ref.{ptr};
 ghost use Rattle.name_stars.specs.Stars.{baseLength, baseOf, starCount, isFrom};
 
 // How many bytes of a name stand before its trailing stars.
@@ -20,7 +21,8 @@ pub fn base_length(name: &[u8]) -> usize
 
 // The base, as the leading part of the lent name. Whether the name means the base or its inverse is `is_from`.
 pub fn self_and_inverse(name: &[u8]) -> &[u8]
-    ensures { λ r. ⌜ now r ≡ baseOf (now (name .entry)) ⌝ }
+    ensures bytes { λ r. ⌜ now r ≡ baseOf (now (name .entry)) ⌝ }
+    ensures place { λ r. ⌜ ptr r ≡ ptr (name .entry) ⌝ }
 {
     let n = base_length(name);
     &name[..n]

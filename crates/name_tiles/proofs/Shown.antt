@@ -13,7 +13,7 @@ use borrow.Author.Tests.{lt-ltb, le-ltb, ltb-true, ltb-false, eq-eqb, ne-eqb}
 use Rattle.units.specs.Refusals.{passes}
 use Rattle.text_entries.specs.Entries.{part, entryOf}
 use Rattle.name_strands.specs.Numerals.{digit, numeralsFrom, numeralStart, numeralEnd, decimalIn, decimal}
-use Rattle.name_strands.specs.Names.{Names, nullName, Readable}
+use Rattle.name_strands.specs.Names.{StrandNames, nullName, StrandsReadable}
 use Rattle.name_tiles.specs.Tiles.{tileVerdict}
 use Rattle.name_shown.specs.Shown.{shownName}
 use Rattle.name_tiles.proofs.Tile.{tile-readable}
@@ -92,7 +92,7 @@ shown-is-decimal count i few h = either (ltb i 10) refl
     either false e = from-ten count i few h (ltb-false i 10 e)
 
 -- a strand at list place i, which is tile i + 1, without a name shows i in decimal
-pub unnamed-shows-its-place : (strands : ℕ) (n : Names) (i : ℕ) → tileVerdict strands n (i + 1) ≡ passes → (getD (n .present) (i + 1) 0 ≡ 1 → ⊥)
+pub unnamed-shows-its-place : (strands : ℕ) (n : StrandNames) (i : ℕ) → tileVerdict strands n (i + 1) ≡ passes → (getD (n .present) (i + 1) 0 ≡ 1 → ⊥)
     → shownName n (i + 1) ≡ decimal i
 unfolding shownName
 unnamed-shows-its-place strands n i e absent =
@@ -102,9 +102,9 @@ unnamed-shows-its-place strands n i e absent =
     rw (ne-eqb (getD (n .present) (i + 1) 0) 1 absent, less, r .0 .numerals-right) (shown-is-decimal 63 i (omega arith) below)
 
 -- a tile with a name shows it, and tile 0 shows `null`
-pub named-shows-its-name : (n : Names) (tile : ℕ) → getD (n .present) tile 0 ≡ 1 → shownName n tile ≡ entryOf (n .text) (n .offsets) tile
+pub named-shows-its-name : (n : StrandNames) (tile : ℕ) → getD (n .present) tile 0 ≡ 1 → shownName n tile ≡ entryOf (n .text) (n .offsets) tile
 unfolding shownName
 named-shows-its-name n tile present = rw (eq-eqb (getD (n .present) tile 0) 1 present)
 
-pub null-shows-null : (n : Names) → Readable n → shownName n 0 ≡ nullName
+pub null-shows-null : (n : StrandNames) → StrandsReadable n → shownName n 0 ≡ nullName
 null-shows-null n r = named-shows-its-name n 0 (r .null-present) ∙ r .null-name

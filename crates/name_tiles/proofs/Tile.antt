@@ -10,24 +10,25 @@ use Rattle.units.specs.Refusals.{Verdict, passes, refuses, ifPasses, numberIn, 
 use Rattle.units.proofs.Verdicts.{first-passes, rest-passes}
 use Rattle.name_tiles.specs.declared.NumberAnswer.{NumberAnswer}
 use Rattle.name_tiles.specs.declared.NumberAnswer.the-variants.{Shown, Refused}
-use Rattle.name_strands.specs.Names.{Names, names, namesSized, namesRead, namesSizes, namesReading, Readable}
+use Rattle.name_strands.specs.Names.{StrandNames, strandNames, namesSized, namesRead, namesSizes, namesReading, StrandsReadable}
 use Rattle.name_tiles.specs.Tiles.{tileBelow, tileVerdict, numberAnswer, numberOf}
-use Rattle.name_strands.proofs.Passed.{no-fault-found, sized, readable}
+use Rattle.text_entries.proofs.Tested.{no-fault-found}
+use Rattle.name_strands.proofs.Passed.{sized, readable}
 
 module _ (strands : ℕ) (text offsets present numerals : List ℕ) (tile : ℕ) where
-  pub refuses-1 : namesSized strands text offsets present ≡ false → tileVerdict strands (names text offsets present numerals) tile ≡ refuses 1 []
+  pub refuses-1 : namesSized strands text offsets present ≡ false → tileVerdict strands (strandNames text offsets present numerals) tile ≡ refuses 1 []
   refuses-1 e = rw e
 
   pub refuses-17 : namesSized strands text offsets present ≡ true → namesRead text offsets present numerals ≡ false
-      → tileVerdict strands (names text offsets present numerals) tile ≡ refuses 17 []
+      → tileVerdict strands (strandNames text offsets present numerals) tile ≡ refuses 17 []
   refuses-17 e f = rw (e, f)
 
   pub refuses-6 : namesSized strands text offsets present ≡ true → namesRead text offsets present numerals ≡ true → ltb tile strands ≡ false
-      → tileVerdict strands (names text offsets present numerals) tile ≡ refuses 6 []
+      → tileVerdict strands (strandNames text offsets present numerals) tile ≡ refuses 6 []
   refuses-6 e f g = rw (e, f, g)
 
   pub refuses-none : namesSized strands text offsets present ≡ true → namesRead text offsets present numerals ≡ true → ltb tile strands ≡ true
-      → tileVerdict strands (names text offsets present numerals) tile ≡ passes
+      → tileVerdict strands (strandNames text offsets present numerals) tile ≡ passes
   refuses-none e f g = rw (e, f, g)
 
 -- the answer of a chain of tests that comes to w
@@ -47,7 +48,7 @@ pub refused-old : {A : Type 0} {r : NumberAnswer} {number : ℕ} (v : Verdict) (
 refused-old passes new old e f = cc
 refused-old (refuses number values) new old e f = refl
 
-pub tile-readable : (strands : ℕ) (n : Names) (tile : ℕ) → tileVerdict strands n tile ≡ passes → Readable n × (tile < length (n .present))
+pub tile-readable : (strands : ℕ) (n : StrandNames) (tile : ℕ) → tileVerdict strands n tile ≡ passes → StrandsReadable n × (tile < length (n .present))
 tile-readable strands n tile e =
     let rest = rest-passes (namesSizes strands n) (namesReading n ▷ tileBelow strands tile) e in
     let s = sized strands (n .text) (n .offsets) (n .present) (no-fault-found _ 1 [] (first-passes (namesSizes strands n) (namesReading n ▷ tileBelow strands tile) e)) in

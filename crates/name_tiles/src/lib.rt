@@ -2,7 +2,7 @@
 ghost use mathlib.Core.Path.{_≡_};
 ghost use denote.Ref.{ptr};
 ghost use Rattle.units.specs.Refusals.{numberIn};
-ghost use Rattle.name_strands.specs.Names.{names};
+ghost use Rattle.name_strands.specs.Names.{strandNames};
 ghost use Rattle.name_tiles.specs.Tiles.{tileVerdict, numberAnswer, numberOf, tilePart};
 ghost use Rattle.name_shown.specs.Shown.{bytesOf, beginsAt};
 use name_shown::shown;
@@ -24,9 +24,9 @@ pub fn tile_name_refusal(
     numerals: &[u8],
     tile: u32,
 ) -> NumberAnswer
-    ensures refusal { λ r. let n = names (now (text .entry)) (now (offsets .entry)) (now (present .entry)) (now (numerals .entry)) in
+    ensures refusal { λ r. let n = strandNames (now (text .entry)) (now (offsets .entry)) (now (present .entry)) (now (numerals .entry)) in
         ⌜ numberOf r ≡ numberIn (tileVerdict strands n tile) ⌝ }
-    ensures answer { λ r. let n = names (now (text .entry)) (now (offsets .entry)) (now (present .entry)) (now (numerals .entry)) in
+    ensures answer { λ r. let n = strandNames (now (text .entry)) (now (offsets .entry)) (now (present .entry)) (now (numerals .entry)) in
         ⌜ r ≡ numberAnswer (tileVerdict strands n tile) ⌝ }
 {
     if !names_sized(strands, text, offsets, present) {
@@ -50,9 +50,9 @@ pub fn tile_name<'a>(
     numerals: &'a [u8],
     tile: u32,
 ) -> &'a [u8]
-    ensures answer { λ r. let n = names (now (text .entry)) (now (offsets .entry)) (now (present .entry)) (now (numerals .entry)) in
+    ensures answer { λ r. let n = strandNames (now (text .entry)) (now (offsets .entry)) (now (present .entry)) (now (numerals .entry)) in
         ⌜ now r ≡ bytesOf n (tilePart strands n tile) ⌝ }
-    ensures place { λ r. let n = names (now (text .entry)) (now (offsets .entry)) (now (present .entry)) (now (numerals .entry)) in
+    ensures place { λ r. let n = strandNames (now (text .entry)) (now (offsets .entry)) (now (present .entry)) (now (numerals .entry)) in
         ⌜ ptr r ≡ beginsAt (ptr (text .entry)) (ptr (numerals .entry)) (tilePart strands n tile) ⌝ }
 {
     match tile_name_refusal(strands, text, offsets, present, numerals, tile) {

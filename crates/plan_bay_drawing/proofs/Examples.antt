@@ -3,7 +3,7 @@ use mathlib.Core.List.{[], _∷_, flatMap}
 use mathlib.Core.Path.{_≡_, refl}
 use Rattle.text_entries.specs.Entries.{offsetsFrom, areFlags, sameBytes}
 use Rattle.name_strands.specs.Numerals.{numeralsFrom, numeralsText}
-use Rattle.name_strands.specs.Names.{Names, names, namesSized, nullFirst, namesRead}
+use Rattle.name_strands.specs.Names.{StrandNames, strandNames, namesSized, nullFirst, namesRead}
 use Rattle.text_put.specs.Words.{bytes}
 use Rattle.text_put.specs.Puts.{decimal, numberText}
 use Rattle.text_put.specs.Forms.{filledByte}
@@ -13,8 +13,8 @@ use Rattle.plan_name_drawing.specs.Letters.{letterSize, label}
 use Rattle.plan_bay_drawing.specs.Squares.{filling, border, tileLabel, bayDrawing}
 
 -- two strands: `null`, and `A`
-two : Names
-two = names (bytes "nullA") (0 ∷ 4 ∷ 5 ∷ []) (1 ∷ 1 ∷ []) numeralsText
+two : StrandNames
+two = strandNames (bytes "nullA") (0 ∷ 4 ∷ 5 ∷ []) (1 ∷ 1 ∷ []) numeralsText
 
 -- a seed, and a bay that a list of 0 keeps empty
 a-seed : bayDrawing two 24 64 1 2

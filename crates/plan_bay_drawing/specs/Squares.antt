@@ -3,7 +3,7 @@ use Prim.Native.Nat.{ℕ}
 use mathlib.Core.Bool.{cond}
 use mathlib.Core.List.{List, [], _++_}
 use lib.Dec.{eqb}
-use Rattle.name_strands.specs.Names.{Names}
+use Rattle.name_strands.specs.Names.{StrandNames}
 use Rattle.text_put.specs.Words.{bytes}
 use Rattle.text_put.specs.Forms.{filled}
 use Rattle.plan_bay_names.specs.Bays.{nameOf}
@@ -23,8 +23,8 @@ square across down tile mark =
     filled across down (bytes "<g transform=\"translate($,@)\"><rect class=\"") ++ filling tile ++ border mark ++ bytes "\" width=\"72\" height=\"72\"/>"
 
 -- the name of the tile; an empty bay is blank
-unfoldable pub tileLabel : Names → (tile : ℕ) → List ℕ
+unfoldable pub tileLabel : StrandNames → (tile : ℕ) → List ℕ
 tileLabel n tile = cond (eqb tile 0) [] (label (nameOf n tile))
 
-abbrev pub bayDrawing : Names → (across down tile mark : ℕ) → List ℕ
+abbrev pub bayDrawing : StrandNames → (across down tile mark : ℕ) → List ℕ
 bayDrawing n across down tile mark = square across down tile mark ++ tileLabel n tile ++ bytes "</g>\n"

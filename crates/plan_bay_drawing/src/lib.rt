@@ -2,7 +2,7 @@
 //
 // Each function puts its part at the place `at`, leaves the rest of the text as it is, and gives back the next place.
 ghost use Rattle.text_put.specs.Puts.{Put};
-ghost use Rattle.name_strands.specs.Names.{names};
+ghost use Rattle.name_strands.specs.Names.{strandNames};
 ghost use Rattle.plan_bay_drawing.specs.Squares.{square, tileLabel, bayDrawing};
 use plan_bay_names::name_of;
 use plan_name_drawing::put_label;
@@ -23,7 +23,7 @@ pub fn put_bay<'a>(
     out: &mut [u8],
     at: usize,
 ) -> usize
-    ensures { λ r. let n = names (now (text .entry)) (now (offsets .entry)) (now (present .entry)) (now (numerals .entry)) in
+    ensures { λ r. let n = strandNames (now (text .entry)) (now (offsets .entry)) (now (present .entry)) (now (numerals .entry)) in
         ⌜ Put (now (out .entry)) at (bayDrawing n across down tile mark) r (now (out .exit)) ⌝ }
 {
     let label = put_square(across, down, tile, mark, out, at);
@@ -41,7 +41,7 @@ fn put_tile_label<'a>(
     out: &mut [u8],
     at: usize,
 ) -> usize
-    ensures { λ r. let n = names (now (text .entry)) (now (offsets .entry)) (now (present .entry)) (now (numerals .entry)) in
+    ensures { λ r. let n = strandNames (now (text .entry)) (now (offsets .entry)) (now (present .entry)) (now (numerals .entry)) in
         ⌜ Put (now (out .entry)) at (tileLabel n tile) r (now (out .exit)) ⌝ }
 {
     if tile == 0 {

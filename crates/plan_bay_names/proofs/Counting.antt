@@ -8,7 +8,7 @@ use native.Mathlib.Omega.{arith}
 use lib.Dec.{ltb}
 use lib.ListN.{length, getD, drop, drop-of-length-le}
 use lib.Seq.{drop-cons}
-use Rattle.name_strands.specs.Names.{Names}
+use Rattle.name_strands.specs.Names.{StrandNames}
 use Rattle.plan_bay_names.specs.Bays.{bayText, begun, characterCount, widestBay}
 
 -- a byte begins at most one character
@@ -48,7 +48,7 @@ module _ (text : List ℕ) where
     pub counted-ends : length text ≤ i → count ≡ characterCount text
     counted-ends h = let r = s .rest in omega (arith, no-byte h)
 
-module _ (n : Names) (layout : List ℕ) (widest i : ℕ) (s : max widest (widestBay n (drop i layout)) ≡ widestBay n layout) where
+module _ (n : StrandNames) (layout : List ℕ) (widest i : ℕ) (s : max widest (widestBay n (drop i layout)) ≡ widestBay n layout) where
   next-bay : i < length layout → widestBay n (drop i layout) ≡ max (characterCount (bayText n (getD layout i 0))) (widestBay n (drop (i + 1) layout))
   unfolding widestBay
   next-bay h = rw (drop-cons layout i 0 h, add-one i)

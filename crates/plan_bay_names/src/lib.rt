@@ -2,7 +2,7 @@
 ghost use mathlib.Core.Path.{_≡_};
 ghost use Prim.Native.Nat.{max};
 ghost use lib.ListN.{getD};
-ghost use Rattle.name_strands.specs.Names.{names};
+ghost use Rattle.name_strands.specs.Names.{strandNames};
 ghost use Rattle.plan_bay_names.specs.Bays.{nameOf, bayText, begun, characterCount, frontBytes, widestBay};
 
 // The name that is shown for a tile, there being as many strands as presence bytes.
@@ -13,7 +13,7 @@ pub fn name_of<'a>(
     numerals: &'a [u8],
     tile: u32,
 ) -> &'a [u8]
-    ensures { λ r. let n = names (now (text .entry)) (now (offsets .entry)) (now (present .entry)) (now (numerals .entry)) in
+    ensures { λ r. let n = strandNames (now (text .entry)) (now (offsets .entry)) (now (present .entry)) (now (numerals .entry)) in
         ⌜ now r ≡ nameOf n tile ⌝ }
 {
     name_tiles::tile_name(present.len(), text, offsets, present, numerals, tile)
@@ -80,7 +80,7 @@ fn bay_width<'a>(
     numerals: &'a [u8],
     tile: u32,
 ) -> usize
-    ensures { λ r. let n = names (now (text .entry)) (now (offsets .entry)) (now (present .entry)) (now (numerals .entry)) in
+    ensures { λ r. let n = strandNames (now (text .entry)) (now (offsets .entry)) (now (present .entry)) (now (numerals .entry)) in
         ⌜ r ≡ characterCount (bayText n tile) ⌝ }
 {
     if tile == 0 {
@@ -97,7 +97,7 @@ pub fn widest_bay<'a>(
     present: &[u8],
     numerals: &'a [u8],
 ) -> usize
-    ensures { λ r. let n = names (now (text .entry)) (now (offsets .entry)) (now (present .entry)) (now (numerals .entry)) in
+    ensures { λ r. let n = strandNames (now (text .entry)) (now (offsets .entry)) (now (present .entry)) (now (numerals .entry)) in
         ⌜ r ≡ widestBay n (now (layout .entry)) ⌝ }
 {
     let mut widest = 0;

@@ -5,7 +5,7 @@ use mathlib.Core.Bool.{true}
 use lib.Ieee.{binary64, round}
 use Rattle.text_entries.specs.Entries.{offsetsFrom, areFlags, sameBytes}
 use Rattle.name_strands.specs.Numerals.{numeralsFrom, numeralsText}
-use Rattle.name_strands.specs.Names.{Names, names, namesSized, nullFirst, namesRead}
+use Rattle.name_strands.specs.Names.{StrandNames, strandNames, namesSized, nullFirst, namesRead}
 use Rattle.text_put.specs.Words.{bytes}
 use Rattle.text_put.specs.Puts.{decimal, numberText}
 use Rattle.text_put.specs.Forms.{filledByte}
@@ -17,8 +17,8 @@ use Rattle.plan_bay_drawing.specs.Squares.{filling, border, tileLabel}
 use Rattle.plan_layout_svg.specs.Drawing.{rowDrawing, rowsDrawing, svgText}
 
 -- two strands: `null`, and `A&1`
-two : Names
-two = names (bytes "nullA&1") (0 ∷ 4 ∷ 7 ∷ []) (1 ∷ 1 ∷ []) numeralsText
+two : StrandNames
+two = strandNames (bytes "nullA&1") (0 ∷ 4 ∷ 7 ∷ []) (1 ∷ 1 ∷ []) numeralsText
 
 -- a seeded bay beside one that is kept empty, at −1.84 kcal/mol
 a-seed-and-an-empty-bay : svgText 1 2 two (1 ∷ 0 ∷ []) (2 ∷ 3 ∷ []) (round binary64 true 184 100)

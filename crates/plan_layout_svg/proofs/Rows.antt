@@ -7,7 +7,7 @@ use native.Mathlib.Omega.{arith}
 use lib.ListN.{length, getD, drop}
 use lib.Seq.{drop-drop, getD-drop}
 use Rattle.units.specs.Limits.{mostSide}
-use Rattle.name_strands.specs.Names.{Names}
+use Rattle.name_strands.specs.Names.{StrandNames}
 use Rattle.text_put.specs.Puts.{Put}
 use Rattle.text_put.proofs.Putting.{Ending, ending-starts, ending-goes-on, ending-ends}
 use Rattle.plan_bay_drawing.specs.Squares.{bayDrawing}
@@ -19,7 +19,7 @@ there l i = getD-drop i l 0 0 ∙ ap (λ (k : ℕ). getD l k 0) (add-zero i)
 onward : (l : List ℕ) (i by : ℕ) → drop by (drop i l) ≡ drop (i + by) l
 onward l i by = drop-drop by i l
 
-module _ (n : Names) (layout marks : List ℕ) where
+module _ (n : StrandNames) (layout marks : List ℕ) where
   -- ---- the bays of a row
 
   -- the bays from a column on

@@ -8,7 +8,7 @@ use lib.Dec.{leb}
 use lib.Ieee.{Float}
 use Rattle.units.specs.Limits.{mostSide}
 use Rattle.units.proofs.Tests.{both}
-use Rattle.name_strands.specs.Names.{Names}
+use Rattle.name_strands.specs.Names.{StrandNames}
 use Rattle.plan_layout_svg.specs.Frame.{head, foot}
 use Rattle.plan_layout_svg.specs.Drawing.{rowsDrawing, pixelsAcross, isDrawn, drawing, svgText}
 
@@ -19,7 +19,7 @@ module _ (rows columns : ℕ) {room : Bool} (e : room ≡ isDrawn rows columns) 
   pub small : not room ≡ false → (rows ≤ mostSide) × (columns ≤ mostSide)
   small h = let t = both (leb rows mostSide) (leb columns mostSide) (has-room h) in (leb-true rows mostSide (t .0), leb-true columns mostSide (t .1))
 
-  module _ (n : Names) (layout marks : List ℕ) (energy : Float) where
+  module _ (n : StrandNames) (layout marks : List ℕ) (energy : Float) where
     pub drawn : not room ≡ false → {width : ℕ} → width ≡ pixelsAcross columns
         → head width (80 * rows + 124) energy ++ rowsDrawing n columns 0 layout marks rows ++ foot (80 * rows + 78) ≡ svgText rows columns n layout marks energy
     unfolding svgText

@@ -8,7 +8,7 @@ ghost use Prim.Native.Nat.{_*_, _≤_};
 ghost use lib.ListN.{length, getD, drop};
 ghost use Rattle.units.specs.Limits.{mostSide};
 ghost use Rattle.text_put.specs.Puts.{Put};
-ghost use Rattle.name_strands.specs.Names.{names};
+ghost use Rattle.name_strands.specs.Names.{strandNames};
 ghost use Rattle.plan_layout_svg.specs.Drawing.{rowDrawing, rowsDrawing, pixelsAcross, isDrawn, svgText};
 use crate::frame::put_foot;
 use crate::frame::put_head;
@@ -31,7 +31,7 @@ pub fn put_svg<'a>(
     out: &mut [u8],
     at: usize,
 ) -> usize
-    ensures { λ r. let n = names (now (text .entry)) (now (offsets .entry)) (now (present .entry)) (now (numerals .entry)) in
+    ensures { λ r. let n = strandNames (now (text .entry)) (now (offsets .entry)) (now (present .entry)) (now (numerals .entry)) in
         ⌜ Put (now (out .entry)) at (svgText rows cols n (now (layout .entry)) (now (marks .entry)) energy) r (now (out .exit)) ⌝ }
 {
     if !has_room(rows, cols) {
@@ -86,7 +86,7 @@ fn put_rows<'a>(
 ) -> usize
     requires { ⌜ (rows ≤ mostSide) × (cols ≤ mostSide) ⌝ }
     requires { ⌜ at ≤ length (now out) ⌝ }
-    ensures { λ r. let n = names (now (text .entry)) (now (offsets .entry)) (now (present .entry)) (now (numerals .entry)) in
+    ensures { λ r. let n = strandNames (now (text .entry)) (now (offsets .entry)) (now (present .entry)) (now (numerals .entry)) in
         ⌜ Put (now (out .entry)) at (rowsDrawing n cols 0 (now (layout .entry)) (now (marks .entry)) rows) r (now (out .exit)) ⌝ }
 {
     let mut next = at;
@@ -128,7 +128,7 @@ fn put_row<'a>(
 ) -> usize
     requires { ⌜ (row ≤ mostSide) × (cols ≤ mostSide) × (first ≤ mostSide * mostSide) ⌝ }
     requires { ⌜ at ≤ length (now out) ⌝ }
-    ensures { λ r. let n = names (now (text .entry)) (now (offsets .entry)) (now (present .entry)) (now (numerals .entry)) in
+    ensures { λ r. let n = strandNames (now (text .entry)) (now (offsets .entry)) (now (present .entry)) (now (numerals .entry)) in
         ⌜ Put (now (out .entry)) at (rowDrawing n row 0 (drop first (now (layout .entry))) (drop first (now (marks .entry))) cols) r (now (out .exit)) ⌝ }
 {
     let down = 64 + 80 * (row as u64);

@@ -10,7 +10,7 @@ use borrow.Author.Tests.{leb-true, leb-false}
 use lib.Dec.{leb}
 use lib.ListN.{length, getD, drop, drop-of-length-le}
 use lib.Seq.{drop-drop, getD-drop}
-use Rattle.name_strands.specs.Names.{Names}
+use Rattle.name_strands.specs.Names.{StrandNames}
 use Rattle.text_put.specs.Puts.{Put}
 use Rattle.text_put.proofs.Putting.{Ending, ending-goes-on}
 use Rattle.plan_bay_names.specs.Bays.{bayText, characterCount}
@@ -43,7 +43,7 @@ module _ (width left : ℕ) (shown : List ℕ) where
 
 -- ---- a row, and the rows
 
-module _ (n : Names) (width : ℕ) where
+module _ (n : StrandNames) (width : ℕ) where
   pub row-next : (tiles : List ℕ) (left : ℕ) → 0 < left
       → rowText n width tiles left ≡ cellText width (left - 1) (bayText n (getD tiles 0 0)) ++ rowText n width (drop 1 tiles) (left - 1)
   unfolding rowText
@@ -85,7 +85,7 @@ tile-there layout bay = sym (getD-drop bay layout 0 0 ∙ ap (λ (k : ℕ). getD
 
 -- ---- turns
 
-module _ (n : Names) (width : ℕ) (layout : List ℕ) {old : List ℕ} {at : ℕ} {whole out : List ℕ} {next : ℕ} (bay left : ℕ) where
+module _ (n : StrandNames) (width : ℕ) (layout : List ℕ) {old : List ℕ} {at : ℕ} {whole out : List ℕ} {next : ℕ} (bay left : ℕ) where
   pub row-goes-on : Ending old at whole (rowText n width (drop bay layout) left) out next → 0 < left → {tile : ℕ} → tile ≡ getD layout bay 0
       → {r : ℕ} {out' : List ℕ} → Put out next (cellText width (left - 1) (bayText n tile)) r out' → {bay' : ℕ} → bay' ≡ min (bay + 1) (length layout)
       → Ending old at whole (rowText n width (drop bay' layout) (left - 1)) out' r

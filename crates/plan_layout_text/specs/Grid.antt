@@ -2,7 +2,7 @@
 use Prim.Native.Nat.{ℕ, zero, suc, _-_}
 use mathlib.Core.List.{List, [], _∷_, _++_}
 use lib.ListN.{getD, drop}
-use Rattle.name_strands.specs.Names.{Names}
+use Rattle.name_strands.specs.Names.{StrandNames}
 use Rattle.plan_bay_names.specs.Bays.{bayText, characterCount, widestBay}
 
 -- so many spaces
@@ -20,14 +20,14 @@ abbrev pub cellText : (width left : ℕ) → (shown : List ℕ) → List ℕ
 cellText width left shown = shown ++ gap width (characterCount shown) left
 
 -- so many bays of the tiles as the end of a line; tiles that are not there are empty bays
-unfoldable pub rowText : Names → (width : ℕ) → (tiles : List ℕ) → (left : ℕ) → List ℕ
+unfoldable pub rowText : StrandNames → (width : ℕ) → (tiles : List ℕ) → (left : ℕ) → List ℕ
 rowText n width tiles zero = 10 ∷ []
 rowText n width tiles (suc left) = cellText width left (bayText n (getD tiles 0 0)) ++ rowText n width (drop 1 tiles) left
 
 -- so many rows of the tiles, one a line
-unfoldable pub rowsText : Names → (width columns : ℕ) → (tiles : List ℕ) → (rows : ℕ) → List ℕ
+unfoldable pub rowsText : StrandNames → (width columns : ℕ) → (tiles : List ℕ) → (rows : ℕ) → List ℕ
 rowsText n width columns tiles zero = []
 rowsText n width columns tiles (suc rows) = rowText n width tiles columns ++ rowsText n width columns (drop columns tiles) rows
 
-abbrev pub layoutText : (rows columns : ℕ) → Names → (layout : List ℕ) → List ℕ
+abbrev pub layoutText : (rows columns : ℕ) → StrandNames → (layout : List ℕ) → List ℕ
 layoutText rows columns n layout = rowsText n (widestBay n layout) columns layout rows

@@ -5,7 +5,7 @@ ghost use mathlib.Core.Path.{_≡_};
 ghost use Prim.Native.Nat.{_+_, _-_, _≤_, min};
 ghost use lib.ListN.{length, drop};
 ghost use Rattle.text_put.specs.Puts.{Put};
-ghost use Rattle.name_strands.specs.Names.{names};
+ghost use Rattle.name_strands.specs.Names.{strandNames};
 ghost use Rattle.plan_bay_names.specs.Bays.{bayText};
 ghost use Rattle.plan_layout_text.specs.Grid.{spaces, cellText, rowText, layoutText};
 use plan_bay_names::characters;
@@ -28,7 +28,7 @@ pub fn put_layout<'a>(
     out: &mut [u8],
     at: usize,
 ) -> usize
-    ensures { λ r. let n = names (now (text .entry)) (now (offsets .entry)) (now (present .entry)) (now (numerals .entry)) in
+    ensures { λ r. let n = strandNames (now (text .entry)) (now (offsets .entry)) (now (present .entry)) (now (numerals .entry)) in
         ⌜ Put (now (out .entry)) at (layoutText rows cols n (now (layout .entry))) r (now (out .exit)) ⌝ }
 {
     let width = widest_bay(layout, text, offsets, present, numerals);
@@ -68,7 +68,7 @@ fn put_row<'a>(
     at: usize,
 ) -> usize
     requires { ⌜ at ≤ length (now out) ⌝ }
-    ensures { λ r. let n = names (now (text .entry)) (now (offsets .entry)) (now (present .entry)) (now (numerals .entry)) in
+    ensures { λ r. let n = strandNames (now (text .entry)) (now (offsets .entry)) (now (present .entry)) (now (numerals .entry)) in
         ⌜ Put (now (out .entry)) at (rowText n width (drop first (now (layout .entry))) cols) r (now (out .exit)) ⌝ }
 {
     let mut next = at;
@@ -105,7 +105,7 @@ fn put_bay<'a>(
     out: &mut [u8],
     at: usize,
 ) -> usize
-    ensures { λ r. let n = names (now (text .entry)) (now (offsets .entry)) (now (present .entry)) (now (numerals .entry)) in
+    ensures { λ r. let n = strandNames (now (text .entry)) (now (offsets .entry)) (now (present .entry)) (now (numerals .entry)) in
         ⌜ Put (now (out .entry)) at (cellText width left (bayText n tile)) r (now (out .exit)) ⌝ }
 {
     let name = name_of(text, offsets, present, numerals, tile);

@@ -2,7 +2,7 @@
 use Prim.Native.Nat.{ℕ}
 use mathlib.Core.List.{List, [], _∷_, flatten}
 use mathlib.Core.Path.{_≡_, refl}
-use Rattle.name_glues.specs.Names.{names}
+use Rattle.name_glues.specs.Names.{glueNames as names}
 use Rattle.sheet_fields.specs.Fields.{isPlain, plainLength, quotedLength, endingOf, fieldOf, bareField, quotedField, isQuoted, field, unquoted, raw, content, after}
 use Rattle.sheet_fields.specs.Runs.{contents, past}
 use Rattle.sheet_records.specs.Tables.{columns}

@@ -6,7 +6,7 @@ use native.Mathlib.Nat.{sub-zero}
 use native.Mathlib.Omega.{arith}
 use lib.ListN.{length, take, set, length-append, length-set}
 use Rattle.units.specs.declared.CountAnswer.{CountAnswer}
-use Rattle.name_glues.specs.Names.{Names, names}
+use Rattle.name_glues.specs.Names.{GlueNames as Names, glueNames as names}
 use Rattle.name_registering.proofs.Answered.{asked, Answered}
 use Rattle.sheet_records.specs.Tables.{columns}
 use Rattle.sheet_names.specs.Appended.{flagOf, ends, Appended}

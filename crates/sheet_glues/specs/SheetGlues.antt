@@ -6,7 +6,7 @@ use lib.ListN.{length, take}
 use Rattle.units.specs.declared.CountAnswer.{CountAnswer}
 use Rattle.units.specs.Refusals.{Prints}
 use Rattle.units.specs.Answers.{countRefusal}
-use Rattle.name_glues.specs.Names.{Names, names}
+use Rattle.name_glues.specs.Names.{GlueNames as Names, glueNames as names}
 use Rattle.name_register_input.specs.Input.{request}
 use Rattle.name_registering.specs.Register.{registerVerdict, registerAnswer, gluesAfter, scaffoldAfter, basesAfter}
 use Rattle.sheet_records.specs.Tables.{columns}

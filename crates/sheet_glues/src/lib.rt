@@ -1,7 +1,7 @@
 // From a strands' sheet and a scaffold's sheet to glue numbers: the names of both are laid one after the other and registered.
 ghost use Prim.Native.Nat.{_+_, _-_, _*_, _≤_, _<_};
 ghost use lib.ListN.{length, take, set};
-ghost use Rattle.name_glues.specs.Names.{names};
+ghost use Rattle.name_glues.specs.Names.{glueNames as names};
 ghost use Rattle.sheet_names.specs.Appended.{Appended};
 ghost use Rattle.sheet_glues.specs.SheetGlues.{glueNames, noEntries, allEntries, laidNames, Registers};
 use name_registering::register;

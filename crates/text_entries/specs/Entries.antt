@@ -4,10 +4,15 @@ use mathlib.Core.Bool.{Bool, true, false, _&&_}
 use mathlib.Core.List.{List, [], _∷_}
 use lib.Dec.{leb, eqb}
 use lib.ListN.{getD, take, drop}
+use Rattle.units.specs.Limits.{mostNameBytes}
 
 -- what stands in a text from one place up to another
 abbrev pub part : List ℕ → (from to : ℕ) → List ℕ
 part text from to = take (to - from) (drop from text)
+
+-- n bytes after a place in memory, which is a block and an offset in it
+abbrev pub after : ℕ × ℕ → ℕ → ℕ × ℕ
+after place n = (place .0, n + place .1)
 
 -- entry i of a text
 abbrev pub entryOf : (text offsets : List ℕ) → ℕ → List ℕ
@@ -25,6 +30,10 @@ offsetsFit end offsets = offsetsFrom end 0 offsets
 unfoldable pub areFlags : List ℕ → Bool
 areFlags [] = true
 areFlags (byte ∷ bytes) = leb byte 1 && areFlags bytes
+
+-- at most 16,384 bytes of text, one offset more than entries and a presence byte for each, by their lengths
+abbrev pub entriesSized : (text offsets present entries : ℕ) → Bool
+entriesSized text offsets present entries = leb text mostNameBytes && (eqb offsets (entries + 1) && eqb present entries)
 
 -- the same bytes
 unfoldable pub sameBytes : List ℕ → List ℕ → Bool

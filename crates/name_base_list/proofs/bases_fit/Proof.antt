@@ -4,7 +4,7 @@ use mathlib.Core.Path.{_≡_, _∙_, sym}
 use native.Mathlib.Nat.{sub-zero}
 use native.Mathlib.Omega.{arith}
 use borrow.Author.Needs.{scaled-fits}
-use Rattle.name_base_list.proofs.Lists.{base-fits, base-overruns, bases-done}
+use Rattle.name_base_list.proofs.Within.{base-fits, base-overruns, bases-done}
 use Rattle.name_base_list.specs.Bases.{basesFitFrom, basesFit}
 use Rattle.name_base_list.proofs.bases_fit.Statement.{statement}
 use Rattle.name_base_list.proofs.bases_fit.Tie as tie

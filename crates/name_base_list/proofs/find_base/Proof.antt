@@ -6,13 +6,15 @@ use native.Mathlib.Omega.{arith}
 use lib.ListN.{length}
 use denote.Ref.{now}
 use borrow.Author.Needs.{needs, scaled-fits}
-use Rattle.name_base_list.proofs.Lists.{found, passed, not-found, base-within}
-use Rattle.name_base_list.specs.Bases.{findFrom, findBase, baseEnd}
+use Rattle.text_entries.specs.InOrder.{firstFrom}
+use Rattle.text_entries.proofs.InOrder.{here, later, nowhere}
+use Rattle.name_base_list.proofs.Within.{base-within}
+use Rattle.name_base_list.specs.Bases.{isBase, findBase, baseEnd}
 use Rattle.name_base_list.proofs.find_base.Statement.{statement}
 use Rattle.name_base_list.proofs.find_base.Tie as tie
 
 abbrev Inv-loop : tie.InvT-loop
-Inv-loop text bases count name j₀ j = (j ≤ count) × (findBase text bases count name ≡ findFrom text bases name j (count - j))
+Inv-loop text bases count name j₀ j = (j ≤ count) × (findBase text bases count name ≡ firstFrom (isBase text bases name) j (count - j))
 
 abbrev μ-loop : tie.MeasureT-loop
 μ-loop text bases count name j₀ j = count - j
@@ -69,7 +71,7 @@ same-bytes-requires c κs = search needs
 returns : tie.Need-returns Inv-loop μ-loop
 returns c =
     let turn = c .before .before .before .before .before in
-    (sym (turn .before .loop .inv .1 ∙ found _ _ _ _ _ (turn .loop-test .taken) (sym (c .before .same-bytes .ensures) ∙ c .if1 .taken)), turn .before .loop .inv .0)
+    (sym (turn .before .loop .inv .1 ∙ here _ _ _ (turn .loop-test .taken) (sym (c .before .same-bytes .ensures) ∙ c .if1 .taken)), turn .before .loop .inv .0)
 
 add-j : tie.Need-add-j Inv-loop μ-loop
 add-j c = omega arith
@@ -80,10 +82,10 @@ loop-less c = omega arith
 loop-again : tie.Need-loop-again Inv-loop μ-loop
 loop-again c =
     let turn = c .before .before .before .before .before in
-    (omega arith, turn .before .loop .inv .1 ∙ passed _ _ _ _ _ (turn .loop-test .taken) (sym (c .before .same-bytes .ensures) ∙ c .if1 .left))
+    (omega arith, turn .before .loop .inv .1 ∙ later _ _ _ (turn .loop-test .taken) (sym (c .before .same-bytes .ensures) ∙ c .if1 .left))
 
 returns-2 : tie.Need-returns-2 Inv-loop μ-loop
-returns-2 c = (sym (c .before .loop .inv .1 ∙ not-found _ _ _ _ _ (c .loop-test .left)), c .before .loop .inv .0)
+returns-2 c = (sym (c .before .loop .inv .1 ∙ nowhere _ _ _ (c .loop-test .left)), c .before .loop .inv .0)
 
 pub find-base-spec : {M : Type 1} → statement M
 find-base-spec =

@@ -10,9 +10,9 @@ use Rattle.name_energy_keys.proofs.KeyLaws.{lent-passed, refused-answer
 use Rattle.name_keys_lent.proofs.LentLaws.{held}
 use Rattle.name_keys_lent.specs.Lent.{lentVerdict, Lent}
 use Rattle.name_energy_keys.specs.Keys.{keysVerdict}
-use Rattle.name_keys.specs.Names.{Names, names}
+use Rattle.name_keys.specs.Names.{KeyNames, keyNames}
 use Rattle.name_key_values.specs.Values.{Values, values}
-use Rattle.name_key_refusals.specs.Refusals.{valuesVerdict}
+use Rattle.name_key_values.specs.Refusals.{valuesVerdict}
 use Rattle.name_energy_keys.proofs.energy_keys.Statement.{statement}
 use Rattle.name_energy_keys.proofs.energy_keys.Tie as tie
 
@@ -20,8 +20,8 @@ use Rattle.name_energy_keys.proofs.energy_keys.Tie as tie
 abbrev entered : tie.After-slice-known2 → tie.Start
 entered c = c .before .before .before .before .before .before .before .before .before .before
 
-abbrev named : tie.Start → Names
-named c = names (now (c .args .text)) (now (c .args .offsets)) (now (c .args .paired)) (now (c .args .bases)) (c .args .count)
+abbrev named : tie.Start → KeyNames
+named c = keyNames (now (c .args .text)) (now (c .args .offsets)) (now (c .args .paired)) (now (c .args .bases)) (c .args .count)
 
 abbrev valued : tie.Start → Values
 valued c = values (now (c .args .kinds)) (now (c .args .numbers)) (now (c .args .sequences)) (now (c .args .sequence-offsets))
@@ -65,7 +65,7 @@ check-values-requires : tie.Need-check-values-requires
 check-values-requires c κs =
     let start = entered (c .before .before .before) in
     let h = held (named start) (valued start) (delta-g-length start) (entropy-length start) (tested c) in
-    (h .lists .two-numbers, (h .lists .one-sequence, h .sequences-within))
+    (h .lists .two-numbers, h .lists .one-sequence)
 
 enum-known-r-2 : tie.Need-enum-known-r-2
 enum-known-r-2 c = search needs

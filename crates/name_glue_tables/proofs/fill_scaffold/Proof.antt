@@ -7,7 +7,7 @@ use native.Mathlib.Omega.{arith}
 use lib.ListN.{length, drop, length-set}
 use denote.Ref.{now}
 use borrow.Author.Needs.{scaled-fits}
-use Rattle.name_glues.specs.Names.{Names, names}
+use Rattle.name_glues.specs.Names.{GlueNames, glueNames}
 use Rattle.name_glue_tables.specs.Tables.{scaffoldTable}
 use Rattle.name_glue_tables.proofs.Filling.{length-scaffold, bay-turn}
 use Rattle.name_glue_tables.proofs.Stores.{all-written}
@@ -16,14 +16,14 @@ use Rattle.name_glue_tables.proofs.fill_scaffold.Tie as tie
 
 abbrev Inv-loop : tie.InvT-loop
 Inv-loop from text offsets present bases count table₀ bay₀ table bay =
-    (bay ≤ length table₀) × (table ≡ scaffoldTable (names text offsets present) bases count from bay ++ drop bay table₀) × (length table ≡ length table₀)
+    (bay ≤ length table₀) × (table ≡ scaffoldTable (glueNames text offsets present) bases count from bay ++ drop bay table₀) × (length table ≡ length table₀)
 
 abbrev μ-loop : tie.MeasureT-loop
 μ-loop from text offsets present bases count table₀ bay₀ table bay = length table₀ - bay
 
 -- the names at entry
-abbrev given : tie.Start Inv-loop μ-loop → Names
-given s = names (now (s .args .text)) (now (s .args .offsets)) (now (s .args .present))
+abbrev given : tie.Start Inv-loop μ-loop → GlueNames
+given s = glueNames (now (s .args .text)) (now (s .args .offsets)) (now (s .args .present))
 
 loop-holds : tie.Need-loop-holds Inv-loop μ-loop
 unfolding scaffoldTable

@@ -6,7 +6,7 @@ use native.Mathlib.Numerals.{add-one-le}
 use native.Mathlib.Omega.{arith}
 use lib.ListN.{length, drop}
 use denote.Ref.{now}
-use Rattle.name_glues.specs.Names.{Names, names}
+use Rattle.name_glues.specs.Names.{GlueNames, glueNames}
 use Rattle.name_glue_tables.specs.Tables.{strandTable}
 use Rattle.name_glue_tables.proofs.Filling.{length-strands, strand-turn}
 use Rattle.name_glue_tables.proofs.Stores.{as-long, all-written}
@@ -15,14 +15,14 @@ use Rattle.name_glue_tables.proofs.fill_strands.Tie as tie
 
 abbrev Inv-loop : tie.InvT-loop
 Inv-loop strands text offsets present bases count table₀ s₀ table s =
-    (s ≤ strands) × (table ≡ strandTable (names text offsets present) bases count s ++ drop (s * 5) table₀)
+    (s ≤ strands) × (table ≡ strandTable (glueNames text offsets present) bases count s ++ drop (s * 5) table₀)
 
 abbrev μ-loop : tie.MeasureT-loop
 μ-loop strands text offsets present bases count table₀ s₀ table s = strands - s
 
 -- the names at entry
-abbrev given : tie.Start Inv-loop μ-loop → Names
-given s = names (now (s .args .text)) (now (s .args .offsets)) (now (s .args .present))
+abbrev given : tie.Start Inv-loop μ-loop → GlueNames
+given s = glueNames (now (s .args .text)) (now (s .args .offsets)) (now (s .args .present))
 
 -- the table keeps its length
 long : (c : tie.At-loop Inv-loop μ-loop) → length (c .loop .table) ≡ length (now (c .before .before .before .before .before .before .args .table))

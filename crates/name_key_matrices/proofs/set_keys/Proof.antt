@@ -11,7 +11,7 @@ use Rattle.name_keys_lent.proofs.LentLaws.{Held, held}
 use Rattle.name_key_matrices.proofs.MatrixLaws.{matrix-none, matrix-more, matrix-all, matrix-length}
 use Rattle.name_key_matrices.proofs.InSide.{key-in-side}
 use Rattle.name_key_matrices.specs.Matrices.{matrixTo}
-use Rattle.name_keys.specs.Names.{Names, names}
+use Rattle.name_keys.specs.Names.{KeyNames, keyNames}
 use Rattle.name_key_values.specs.Values.{Values, values}
 use Rattle.name_key_matrices.proofs.set_keys.Statement.{statement}
 use Rattle.name_key_matrices.proofs.set_keys.Tie as tie
@@ -26,8 +26,8 @@ ds energy = energy .ds
 abbrev Inv-loop : tie.InvT-loop
 Inv-loop text offsets paired kinds numbers sequences sequence-offsets bases count delta-g₀ entropy₀ side k₀ delta-g entropy k =
     (k ≤ length kinds)
-    × ((delta-g ≡ matrixTo dg (names text offsets paired bases count) (values kinds numbers sequences sequence-offsets) k)
-    × (entropy ≡ matrixTo ds (names text offsets paired bases count) (values kinds numbers sequences sequence-offsets) k))
+    × ((delta-g ≡ matrixTo dg (keyNames text offsets paired bases count) (values kinds numbers sequences sequence-offsets) k)
+    × (entropy ≡ matrixTo ds (keyNames text offsets paired bases count) (values kinds numbers sequences sequence-offsets) k))
 
 abbrev μ-loop : tie.MeasureT-loop
 μ-loop text offsets paired kinds numbers sequences sequence-offsets bases count delta-g₀ entropy₀ side k₀ delta-g entropy k =
@@ -37,8 +37,8 @@ abbrev μ-loop : tie.MeasureT-loop
 abbrev entered : tie.After-slice-known4 Inv-loop μ-loop → tie.Start Inv-loop μ-loop
 entered c = c .before .before .before .before .before .before .before .before .before .before .before .before .before .before .before .before .before .before
 
-abbrev named : tie.Start Inv-loop μ-loop → Names
-named c = names (now (c .args .text)) (now (c .args .offsets)) (now (c .args .paired)) (now (c .args .bases)) (c .args .count)
+abbrev named : tie.Start Inv-loop μ-loop → KeyNames
+named c = keyNames (now (c .args .text)) (now (c .args .offsets)) (now (c .args .paired)) (now (c .args .bases)) (c .args .count)
 
 abbrev valued : tie.Start Inv-loop μ-loop → Values
 valued c = values (now (c .args .kinds)) (now (c .args .numbers)) (now (c .args .sequences)) (now (c .args .sequence-offsets))
@@ -72,15 +72,14 @@ loop-holds c =
 key-energy-requires : tie.Need-key-energy-requires Inv-loop μ-loop
 key-energy-requires c κs =
     let h = tested (entered (c .before .before)) in
-    (c .loop-test .taken, (h .lists .two-numbers, (h .lists .one-sequence, h .sequences-within)))
+    (c .loop-test .taken, (h .lists .two-numbers, h .lists .one-sequence))
 
 key-joined-requires : tie.Need-key-joined-requires Inv-loop μ-loop
 key-joined-requires c κs =
     let start = entered (c .before .before .before) in
     let h = tested start in
     let lists = h .lists in
-    let tables = h .tables in
-    (omega arith, (omega arith, (h .names-within, ((tables .few, omega arith), h .bases-within))))
+    (omega arith, (omega arith, (h .names-within, h .searchable)))
 
 set-key-requires : tie.Need-set-key-requires Inv-loop μ-loop
 set-key-requires c κs =

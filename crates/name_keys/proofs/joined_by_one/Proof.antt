@@ -20,10 +20,10 @@ add-t10 : tie.Need-add-t10
 add-t10 c = search needs
 
 returns : tie.Need-returns
-returns c = rw (← c .before .base-number .ensures, lt-ltb _ _ (c .if1 .taken))
+returns c = rw (← c .before .base-number .ensures .0, lt-ltb _ _ (c .if1 .taken))
 
 returns-2 : tie.Need-returns-2
-returns-2 c = rw (← c .before .base-number .ensures, le-ltb _ _ (c .if1 .left))
+returns-2 c = rw (← c .before .base-number .ensures .0, le-ltb _ _ (c .if1 .left))
 
 pub joined-by-one-spec : {M : Type 1} → statement M
 joined-by-one-spec =

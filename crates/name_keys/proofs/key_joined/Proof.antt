@@ -3,7 +3,7 @@ use native.Mathlib.Omega.{arith}
 use lib.ListN.{length}
 use denote.Ref.{now}
 use borrow.Author.Needs.{needs}
-use Rattle.name_keys.proofs.NameLaws.{names-fit}
+use Rattle.name_keys.proofs.NameLaws.{are-entries}
 use Rattle.name_keys.proofs.key_joined.Statement.{statement}
 use Rattle.name_keys.proofs.key_joined.Tie as tie
 
@@ -14,8 +14,8 @@ joined-by-requires : tie.Need-joined-by-requires
 joined-by-requires c κs =
     let start = c .before .before .before .before .before in
     let p = start .pre .1 .1 in
-    let fit = names-fit (now (start .args .paired)) (length (now (start .args .offsets))) (start .args .k) (omega arith) in
-    (p .0, (p .1 .0 .0, (p .1 .0 .1, (p .1 .1, rw (c .names-at .ensures) fit))))
+    let fit = are-entries (now (start .args .paired)) (length (now (start .args .offsets))) (start .args .k) (omega arith) in
+    (p .0, (p .1, rw (c .names-at .ensures) fit))
 
 returns : tie.Need-returns
 returns c = rw (← c .before .names-at .ensures) (c .joined-by .ensures)

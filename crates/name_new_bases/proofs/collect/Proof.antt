@@ -6,7 +6,7 @@ use native.Mathlib.Omega.{arith}
 use lib.ListN.{length}
 use denote.Ref.{now}
 use borrow.Author.Needs.{needs}
-use Rattle.name_glues.specs.Names.{Names, names}
+use Rattle.name_glues.specs.Names.{GlueNames, glueNames}
 use Rattle.name_new_bases.specs.Steps.{Holds}
 use Rattle.name_new_bases.proofs.Collecting.{begins, collects, goes-on, stops}
 use Rattle.name_new_bases.proofs.collect.Statement.{statement}
@@ -14,14 +14,14 @@ use Rattle.name_new_bases.proofs.collect.Tie as tie
 
 abbrev Inv-loop : tie.InvT-loop
 Inv-loop text offsets present bases₀ count₀ i₀ bases count i =
-    (i ≤ length present) × (Holds (names text offsets present) i bases count) × (length bases ≡ length bases₀)
+    (i ≤ length present) × (Holds (glueNames text offsets present) i bases count) × (length bases ≡ length bases₀)
 
 abbrev μ-loop : tie.MeasureT-loop
 μ-loop text offsets present bases₀ count₀ i₀ bases count i = length present - i
 
 -- the names at entry
-abbrev given : tie.Start Inv-loop μ-loop → Names
-given s = names (now (s .args .text)) (now (s .args .offsets)) (now (s .args .present))
+abbrev given : tie.Start Inv-loop μ-loop → GlueNames
+given s = glueNames (now (s .args .text)) (now (s .args .offsets)) (now (s .args .present))
 
 loop-holds : tie.Need-loop-holds Inv-loop μ-loop
 loop-holds c =

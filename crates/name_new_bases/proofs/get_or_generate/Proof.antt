@@ -6,14 +6,14 @@ use denote.Ref.{now}
 use borrow.Author.Needs.{needs}
 use borrow.Author.Tests.{not-true, not-false}
 use Rattle.name_stars.specs.Stars.{baseLength}
-use Rattle.name_glues.specs.Names.{Names, names}
+use Rattle.name_glues.specs.Names.{GlueNames, glueNames}
 use Rattle.name_new_bases.proofs.Collecting.{searchable, kept, full, more, room}
 use Rattle.name_new_bases.proofs.get_or_generate.Statement.{statement}
 use Rattle.name_new_bases.proofs.get_or_generate.Tie as tie
 
 -- the names at entry
-abbrev given : tie.Start → Names
-given s = names (now (s .args .text)) (now (s .args .offsets)) (now (s .args .present))
+abbrev given : tie.Start → GlueNames
+given s = glueNames (now (s .args .text)) (now (s .args .offsets)) (now (s .args .present))
 
 is-new-requires : tie.Need-is-new-requires
 is-new-requires c κs =
@@ -70,7 +70,7 @@ returns-3 c =
     _
     _
     refl
-    (put .before .base-length .ensures .0 ∙ ap baseLength (put .before .before .entry .ensures))
+    (put .before .base-length .ensures .0 ∙ ap baseLength (put .before .before .entry .ensures .0))
     (put .put-base .ensures)
 
 pub get-or-generate-spec : {M : Type 1} → statement M

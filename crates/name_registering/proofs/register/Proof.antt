@@ -1,6 +1,6 @@
 -- `name_registering::register` meets its contract: the input is refused, or what is registered is answered. Assumes nothing.
 use denote.Ref.{now}
-use Rattle.name_glues.specs.Names.{Names, names}
+use Rattle.name_glues.specs.Names.{GlueNames, glueNames}
 use Rattle.name_register_input.proofs.Passed.{readable, fitting}
 use Rattle.name_registering.proofs.Answered.{asked, input-refused, input-passed, input-registered}
 use borrow.Author.Needs.{needs}
@@ -8,8 +8,8 @@ use Rattle.name_registering.proofs.register.Statement.{statement}
 use Rattle.name_registering.proofs.register.Tie as tie
 
 -- the names at entry
-abbrev given : tie.Start → Names
-given s = names (now (s .args .text)) (now (s .args .offsets)) (now (s .args .present))
+abbrev given : tie.Start → GlueNames
+given s = glueNames (now (s .args .text)) (now (s .args .offsets)) (now (s .args .present))
 
 check-input-requires : tie.Need-check-input-requires
 check-input-requires c κs = search needs

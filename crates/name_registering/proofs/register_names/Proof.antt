@@ -1,14 +1,14 @@
 -- `name_registering::register_names` meets its contract, by its three ways out. Assumes nothing.
 use denote.Ref.{now}
-use Rattle.name_glues.specs.Names.{Names, names}
+use Rattle.name_glues.specs.Names.{GlueNames, glueNames}
 use Rattle.name_registering.proofs.Registering.{too-many, list-searchable, list-long, starred, done}
 use borrow.Author.Needs.{needs}
 use Rattle.name_registering.proofs.register_names.Statement.{statement}
 use Rattle.name_registering.proofs.register_names.Tie as tie
 
 -- the names at entry
-abbrev given : tie.Start → Names
-given s = names (now (s .args .text)) (now (s .args .offsets)) (now (s .args .present))
+abbrev given : tie.Start → GlueNames
+given s = glueNames (now (s .args .text)) (now (s .args .offsets)) (now (s .args .present))
 
 slice-aggregate-collect : tie.Need-slice-aggregate-collect
 slice-aggregate-collect c = search needs

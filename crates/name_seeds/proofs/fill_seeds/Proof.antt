@@ -5,8 +5,8 @@ use mathlib.Core.Path.{_≡_, refl, _∙_}
 use native.Mathlib.Omega.{arith}
 use lib.ListN.{length, drop}
 use borrow.Author.Needs.{scaled-fits}
-use Rattle.name_strands.specs.Names.{names}
-use Rattle.name_seed_sizes.specs.Sizes.{seedList, seedCount}
+use Rattle.name_strands.specs.Names.{strandNames}
+use Rattle.name_seed_checks.specs.Sizes.{seedList, seedCount}
 use Rattle.name_seeds.specs.Seeds.{seedTriples}
 use Rattle.name_seeds.proofs.Triples.{fill-turn, filled}
 use Rattle.name_seeds.proofs.fill_seeds.Statement.{statement}
@@ -14,7 +14,7 @@ use Rattle.name_seeds.proofs.fill_seeds.Tie as tie
 
 abbrev Inv-loop : tie.InvT-loop
 Inv-loop text offsets present numerals places seed-text seed-offsets seeds₀ k₀ seeds k =
-    (k ≤ seedCount (seedList places seed-text seed-offsets)) × (length seeds ≡ length seeds₀) × (seeds ≡ seedTriples (names text offsets present numerals) (seedList places seed-text seed-offsets) k ++ drop (3 * k) seeds₀)
+    (k ≤ seedCount (seedList places seed-text seed-offsets)) × (length seeds ≡ length seeds₀) × (seeds ≡ seedTriples (strandNames text offsets present numerals) (seedList places seed-text seed-offsets) k ++ drop (3 * k) seeds₀)
 
 abbrev μ-loop : tie.MeasureT-loop
 μ-loop text offsets present numerals places seed-text seed-offsets seeds₀ k₀ seeds k = seedCount (seedList places seed-text seed-offsets) - k

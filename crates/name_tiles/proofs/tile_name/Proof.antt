@@ -3,7 +3,7 @@ use mathlib.Core.Path.{refl}
 use native.Mathlib.Nat.{zero-add}
 use denote.Ref.{now}
 use borrow.Author.Needs.{needs}
-use Rattle.name_strands.specs.Names.{names}
+use Rattle.name_strands.specs.Names.{strandNames}
 use Rattle.name_tiles.specs.Tiles.{tileVerdict}
 use Rattle.name_shown.specs.Shown.{shownName}
 use Rattle.name_tiles.proofs.Tile.{shown-passes, refused-old, tile-readable}
@@ -32,7 +32,7 @@ returns-2 : tie.Need-returns-2
 unfolding shownName
 returns-2 c =
     let a = c .before .before .before .before .before .before .before .before .args in
-    let v = tileVerdict (a .strands) (names (now (a .text)) (now (a .offsets)) (now (a .present)) (now (a .numerals))) (a .tile) in
+    let v = tileVerdict (a .strands) (strandNames (now (a .text)) (now (a .offsets)) (now (a .present)) (now (a .numerals))) (a .tile) in
     rw (shown-passes v (c .before .before .before .tile-name-refusal .ensures .1) (c .before .enum-told2 .given .1)) (c .shown .ensures)
 
 pub tile-name-spec : {M : Type 1} → statement M

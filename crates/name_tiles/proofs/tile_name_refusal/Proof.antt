@@ -3,7 +3,8 @@ use mathlib.Core.List.{[]}
 use borrow.Author.Needs.{needs}
 use borrow.Author.Tests.{lt-ltb, le-ltb}
 use Rattle.units.specs.Refusals.{passes, refuses}
-use Rattle.name_strands.proofs.Passed.{fails, holds, sized, first-there}
+use Rattle.text_entries.proofs.Tested.{fails, holds}
+use Rattle.name_strands.proofs.Passed.{sized, first-there}
 use Rattle.name_tiles.proofs.Tile.{answered, refuses-1, refuses-17, refuses-6, refuses-none}
 use Rattle.name_tiles.proofs.tile_name_refusal.Statement.{statement}
 use Rattle.name_tiles.proofs.tile_name_refusal.Tie as tie

@@ -2,7 +2,7 @@
 use Prim.Native.Nat.{_-_}
 use mathlib.Core.Path.{refl}
 use native.Mathlib.Omega.{arith}
-use Rattle.name_strands.specs.Names.{names}
+use Rattle.name_strands.specs.Names.{strandNames}
 use Rattle.plan_layout_svg.proofs.Rows.{Row, row-starts, row-goes-on, row-ends}
 use borrow.Author.Needs.{needs}
 use Rattle.plan_layout_svg.proofs.put_row.Statement.{statement}
@@ -10,7 +10,7 @@ use Rattle.plan_layout_svg.proofs.put_row.Tie as tie
 
 abbrev Inv-loop : tie.InvT-loop
 Inv-loop row cols layout text offsets present numerals marks first out₀ at down next₀ col₀ out next col =
-    Row (names text offsets present numerals) layout marks row first cols out₀ at out next col
+    Row (strandNames text offsets present numerals) layout marks row first cols out₀ at out next col
 
 abbrev μ-loop : tie.MeasureT-loop
 μ-loop row cols layout text offsets present numerals marks first out₀ at down next₀ col₀ out next col =
@@ -20,7 +20,7 @@ loop-holds : tie.Need-loop-holds Inv-loop μ-loop
 loop-holds c =
     let start = c .before .before .before .before .before .before .before in
     let a = start .args in
-    row-starts (names (a .text .now) (a .offsets .now) (a .present .now) (a .numerals .now)) (a .layout .now) (a .marks .now) (a .row) (a .first) (a .cols) (a .out .now) (a .at) (start .pre .1)
+    row-starts (strandNames (a .text .now) (a .offsets .now) (a .present .now) (a .numerals .now)) (a .layout .now) (a .marks .now) (a .row) (a .first) (a .cols) (a .out .now) (a .at) (start .pre .1)
 
 loop-again : tie.Need-loop-again Inv-loop μ-loop
 loop-again c =
@@ -30,7 +30,7 @@ loop-again c =
     let turn = tile .before in
     let l = turn .before in
     let a = l .before .before .before .before .before .before .before .before .args in
-    row-goes-on (names (a .text .now) (a .offsets .now) (a .present .now) (a .numerals .now)) (a .layout .now) (a .marks .now) (a .row) (a .first) (a .cols) (a .out .now) (a .at) (l .loop .out) (l .loop .next) (l .loop .col) (l .loop .inv)
+    row-goes-on (strandNames (a .text .now) (a .offsets .now) (a .present .now) (a .numerals .now)) (a .layout .now) (a .marks .now) (a .row) (a .first) (a .cols) (a .out .now) (a .at) (l .loop .out) (l .loop .next) (l .loop .col) (l .loop .inv)
     (turn .loop-test .taken) refl refl (tile .tile-at .ensures) (mark .mark-at .ensures) (put .put-bay .ensures)
 
 same-length : tie.Need-same-length Inv-loop μ-loop
@@ -40,7 +40,7 @@ returns : tie.Need-returns Inv-loop μ-loop
 returns c =
     let l = c .before in
     let a = l .before .before .before .before .before .before .before .before .args in
-    row-ends (names (a .text .now) (a .offsets .now) (a .present .now) (a .numerals .now)) (a .layout .now) (a .marks .now) (a .row) (a .first) (a .cols) (a .out .now) (a .at) (l .loop .out) (l .loop .next) (l .loop .col) (l .loop .inv) (c .loop-test .left)
+    row-ends (strandNames (a .text .now) (a .offsets .now) (a .present .now) (a .numerals .now)) (a .layout .now) (a .marks .now) (a .row) (a .first) (a .cols) (a .out .now) (a .at) (l .loop .out) (l .loop .next) (l .loop .col) (l .loop .inv) (c .loop-test .left)
 
 pub put-row-spec : {M : Type 1} → statement M
 put-row-spec =

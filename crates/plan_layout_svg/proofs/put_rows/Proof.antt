@@ -1,14 +1,14 @@
 -- `plan_layout_svg::put_rows` meets its contract: the invariant is that the rows that are left end the grid. Assumes nothing.
 use Prim.Native.Nat.{_-_}
 use native.Mathlib.Omega.{arith}
-use Rattle.name_strands.specs.Names.{names}
+use Rattle.name_strands.specs.Names.{strandNames}
 use Rattle.plan_layout_svg.proofs.Rows.{Grid, grid-starts, grid-goes-on, grid-ends}
 use Rattle.plan_layout_svg.proofs.put_rows.Statement.{statement}
 use Rattle.plan_layout_svg.proofs.put_rows.Tie as tie
 
 abbrev Inv-loop : tie.InvT-loop
 Inv-loop rows cols layout text offsets present numerals marks out₀ at next₀ bay₀ row₀ out next bay row =
-    Grid (names text offsets present numerals) layout marks cols rows out₀ at out next bay row
+    Grid (strandNames text offsets present numerals) layout marks cols rows out₀ at out next bay row
 
 abbrev μ-loop : tie.MeasureT-loop
 μ-loop rows cols layout text offsets present numerals marks out₀ at next₀ bay₀ row₀ out next bay row =
@@ -18,7 +18,7 @@ loop-holds : tie.Need-loop-holds Inv-loop μ-loop
 loop-holds c =
     let start = c .before .before .before .before .before .before .before in
     let a = start .args in
-    grid-starts (names (a .text .now) (a .offsets .now) (a .present .now) (a .numerals .now)) (a .layout .now) (a .marks .now) (a .cols) (a .rows) (a .out .now) (a .at) (start .pre .1)
+    grid-starts (strandNames (a .text .now) (a .offsets .now) (a .present .now) (a .numerals .now)) (a .layout .now) (a .marks .now) (a .cols) (a .rows) (a .out .now) (a .at) (start .pre .1)
 
 put-row-requires : tie.Need-put-row-requires Inv-loop μ-loop
 put-row-requires c κs =
@@ -55,7 +55,7 @@ loop-again c =
     let l = turn .before in
     let start = l .before .before .before .before .before .before .before .before in
     let a = start .args in
-    grid-goes-on (names (a .text .now) (a .offsets .now) (a .present .now) (a .numerals .now)) (a .layout .now) (a .marks .now) (a .cols) (a .rows) (a .out .now) (a .at) (l .loop .out) (l .loop .next) (l .loop .bay) (l .loop .row) (l .loop .inv)
+    grid-goes-on (strandNames (a .text .now) (a .offsets .now) (a .present .now) (a .numerals .now)) (a .layout .now) (a .marks .now) (a .cols) (a .rows) (a .out .now) (a .at) (l .loop .out) (l .loop .next) (l .loop .bay) (l .loop .row) (l .loop .inv)
     (turn .loop-test .taken) (start .pre .0 .1) (put .put-row .ensures)
 
 same-length : tie.Need-same-length Inv-loop μ-loop
@@ -65,7 +65,7 @@ returns : tie.Need-returns Inv-loop μ-loop
 returns c =
     let l = c .before in
     let a = l .before .before .before .before .before .before .before .before .args in
-    grid-ends (names (a .text .now) (a .offsets .now) (a .present .now) (a .numerals .now)) (a .layout .now) (a .marks .now) (a .cols) (a .rows) (a .out .now) (a .at) (l .loop .out) (l .loop .next) (l .loop .bay) (l .loop .row) (l .loop .inv) (c .loop-test .left)
+    grid-ends (strandNames (a .text .now) (a .offsets .now) (a .present .now) (a .numerals .now)) (a .layout .now) (a .marks .now) (a .cols) (a .rows) (a .out .now) (a .at) (l .loop .out) (l .loop .next) (l .loop .bay) (l .loop .row) (l .loop .inv) (c .loop-test .left)
 
 pub put-rows-spec : {M : Type 1} → statement M
 put-rows-spec =

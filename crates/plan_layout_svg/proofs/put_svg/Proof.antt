@@ -2,7 +2,7 @@
 use Prim.Native.Nat.{_≤_}
 use native.Mathlib.Omega.{arith}
 use Rattle.units.specs.Limits.{mostSide}
-use Rattle.name_strands.specs.Names.{names}
+use Rattle.name_strands.specs.Names.{strandNames}
 use Rattle.text_put.proofs.Putting.{put-as, then-put, put-within}
 use Rattle.plan_layout_svg.specs.Drawing.{rowsDrawing}
 use Rattle.plan_layout_svg.proofs.Whole.{small, drawn, not-drawn}
@@ -15,7 +15,7 @@ returns c =
     let put = c .before .before in
     let way = put .before .before .before in
     let a = way .before .before .before .before .before .before .before .before .before .args in
-    put-as (not-drawn (a .rows) (a .cols) (way .before .has-room .ensures) (names (a .text .now) (a .offsets .now) (a .present .now) (a .numerals .now)) (a .layout .now) (a .marks .now) (a .energy) (way .if1 .taken)) (put .put-text .ensures)
+    put-as (not-drawn (a .rows) (a .cols) (way .before .has-room .ensures) (strandNames (a .text .now) (a .offsets .now) (a .present .now) (a .numerals .now)) (a .layout .now) (a .marks .now) (a .energy) (way .if1 .taken)) (put .put-text .ensures)
 
 -- a grid that is drawn is small
 few : (c : tie.Else1) → (c .before .before .before .before .before .before .before .before .before .args .rows ≤ mostSide) × (c .before .before .before .before .before .before .before .before .before .args .cols ≤ mostSide)
@@ -34,7 +34,7 @@ returns-2 c =
     let wide = head .before .before in
     let way = wide .before in
     let a = way .before .before .before .before .before .before .before .before .before .args in
-    let n = names (a .text .now) (a .offsets .now) (a .present .now) (a .numerals .now) in
+    let n = strandNames (a .text .now) (a .offsets .now) (a .present .now) (a .numerals .now) in
     let rows = rowsDrawing n (a .cols) 0 (a .layout .now) (a .marks .now) (a .rows) in
     put-as (drawn (a .rows) (a .cols) (way .before .has-room .ensures) n (a .layout .now) (a .marks .now) (a .energy) (way .if1 .left) (wide .across .ensures))
     (then-put (then-put {b = rows} (head .put-head .ensures) (grid .put-rows .ensures)) (foot .put-foot .ensures))

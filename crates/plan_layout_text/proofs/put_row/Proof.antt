@@ -3,7 +3,7 @@ use mathlib.Core.List.{[], _∷_}
 use mathlib.Core.Path.{_∙_}
 use native.Mathlib.Omega.{arith}
 use lib.ListN.{drop}
-use Rattle.name_strands.specs.Names.{names}
+use Rattle.name_strands.specs.Names.{strandNames}
 use Rattle.text_put.proofs.Putting.{put-long, Ending, ending-starts, last-part}
 use Rattle.plan_layout_text.specs.Grid.{rowText}
 use Rattle.plan_layout_text.proofs.Lines.{row-goes-on, row-end}
@@ -13,7 +13,7 @@ use Rattle.plan_layout_text.proofs.put_row.Tie as tie
 
 abbrev Inv-loop : tie.InvT-loop
 Inv-loop layout text offsets present numerals first cols width out₀ at next₀ bay₀ left₀ t15 out next bay left =
-    let n = names text offsets present numerals in
+    let n = strandNames text offsets present numerals in
     Ending out₀ at (rowText n width (drop first layout) cols) (rowText n width (drop bay layout) left) out next
 
 abbrev μ-loop : tie.MeasureT-loop
@@ -24,7 +24,7 @@ loop-holds : tie.Need-loop-holds Inv-loop μ-loop
 loop-holds c =
     let start = c .before .before .before .before .before .before in
     let a = start .args in
-    ending-starts (rowText (names (a .text .now) (a .offsets .now) (a .present .now) (a .numerals .now)) (a .width) (drop (a .first) (a .layout .now)) (a .cols)) (start .pre)
+    ending-starts (rowText (strandNames (a .text .now) (a .offsets .now) (a .present .now) (a .numerals .now)) (a .width) (drop (a .first) (a .layout .now)) (a .cols)) (start .pre)
 
 loop-less : tie.Need-loop-less Inv-loop μ-loop
 loop-less c = omega (arith, c .before .before .before .before .before .before .loop-test .taken)
@@ -36,7 +36,7 @@ loop-again c =
     let turn = got .before in
     let l = turn .before in
     let a = l .before .before .before .before .before .before .before .args in
-    row-goes-on (names (a .text .now) (a .offsets .now) (a .present .now) (a .numerals .now)) (a .width) (a .layout .now) (l .loop .bay) (l .loop .left) (l .loop .inv)
+    row-goes-on (strandNames (a .text .now) (a .offsets .now) (a .present .now) (a .numerals .now)) (a .width) (a .layout .now) (l .loop .bay) (l .loop .left) (l .loop .inv)
     (turn .loop-test .taken) (got .tile-at .ensures) (put .put-bay .ensures) (c .least-sum .ensures)
 
 same-length : tie.Need-same-length Inv-loop μ-loop
@@ -49,7 +49,7 @@ returns c =
     let l = over .before in
     let a = l .before .before .before .before .before .before .before .args in
     last-part (l .loop .inv) (10 ∷ [])
-    (row-end (names (a .text .now) (a .offsets .now) (a .present .now) (a .numerals .now)) (a .width) (drop (l .loop .bay) (a .layout .now)) (l .loop .left) (over .loop-test .left))
+    (row-end (strandNames (a .text .now) (a .offsets .now) (a .present .now) (a .numerals .now)) (a .width) (drop (l .loop .bay) (a .layout .now)) (l .loop .left) (over .loop-test .left))
     (put .put-text .ensures)
 
 pub put-row-spec : {M : Type 1} → statement M
