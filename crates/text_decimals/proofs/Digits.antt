@@ -12,7 +12,8 @@ use lib.ListN.{length, getD, drop, drop-of-length-le}
 use lib.Seq.{drop-cons}
 use Rattle.text_digits.specs.Digits.{digit, allDigits, worth}
 use Rattle.text_digits.specs.declared.kinds.Number.{Number}
-use Rattle.text_digits.proofs.Worth.{and-false, worth-grows}
+use Rattle.units.proofs.Tests.{and-false}
+use Rattle.text_digits.proofs.Worth.{worth-grows}
 use Rattle.text_decimals.specs.Decimals.{wholeLength, areFew, digitsAfter}
 
 -- ---- up to the point
