@@ -9,9 +9,9 @@ use Rattle.io.specs.Digits.{digits, Fewest}
 use Rattle.text_put.specs.Puts.{numberText}
 use Rattle.text_put.proofs.Spelling.{at-most, number-text}
 use Rattle.bay_lists.specs.Lists.{Constraints, listOf}
 use Rattle.sheet_text.specs.Written.{gap, spaced, separator, rowText, sheetText}
 use Rattle.sheet_text.proofs.Parts.{field-next, record-next, record-end, sheet-next, sheet-end, rows-left}
-use Rattle.sheet_lengths.specs.Lengths.{capped}
+use Rattle.sheet_text.specs.Lengths.{capped}
 
 -- ---- a number and a separator
 

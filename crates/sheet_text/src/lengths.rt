@@ -7,30 +7,39 @@ ghost use mathlib.Core.List.{_++_};
 ghost use Prim.Native.Nat.{_+_, _*_, _≤_};
 ghost use lib.ListN.{length};
 ghost use Rattle.text_put.specs.Puts.{numberText};
-ghost use Rattle.bay_lists.specs.Lists.{constraints, listOf, offsetsShaped};
+ghost use Rattle.bay_lists.specs.Lists.{constraints, offsetsShaped};
 ghost use Rattle.sheet_text.specs.Written.{gap, spaced, separator, rowText, sheetText};
-ghost use Rattle.sheet_text.specs.Asked.{HasLists};
-ghost use Rattle.sheet_lengths.specs.Lengths.{capped};
+ghost use Rattle.sheet_text.specs.Lengths.{capped};
+use crate::wide;
+use bay_list_readers::bay_list;
 
 // The bytes of a grid's sheet.
 pub fn sheet_length(rows: usize, columns: usize, offsets: &[usize], tiles: &[u32]) -> usize
     requires { ⌜ offsetsShaped (rows * columns) (constraints true (now offsets) (now tiles)) ≡ true ⌝ }
     ensures { λ r. ⌜ r ≡ capped (length (sheetText (constraints true (now (offsets .entry)) (now (tiles .entry))) columns 0 rows)) ⌝ }
 {
+    let bays = rows * columns;
     let mut total = 0;
     let mut bay = 0;
     let mut left = rows;
     while 0 < left {
-        total = capped_sum(total, record_length(offsets, tiles, bay, columns));
+        total = capped_sum(total, record_length(bays, offsets, tiles, bay, columns));
         bay += columns;
         left -= 1;
     }
     total
 }
 
-// The bytes of the record of so many bays from one on.
-fn record_length(offsets: &[usize], tiles: &[u32], first: usize, columns: usize) -> usize
-    requires { ⌜ HasLists (now offsets) (now tiles) (first + columns) ⌝ }
+// The bytes of the record of so many of a grid's bays from one on.
+fn record_length(
+    bays: usize,
+    offsets: &[usize],
+    tiles: &[u32],
+    first: usize,
+    columns: usize,
+) -> usize
+    requires { ⌜ offsetsShaped bays (constraints true (now offsets) (now tiles)) ≡ true ⌝ }
+    requires { ⌜ first + columns ≤ bays ⌝ }
     ensures { λ r. ⌜ r ≡ capped (length (rowText (constraints true (now (offsets .entry)) (now (tiles .entry))) first columns)) ⌝ }
 {
     let mut total = 0;
@@ -38,21 +47,11 @@ fn record_length(offsets: &[usize], tiles: &[u32], first: usize, columns: usize)
     let mut left = columns;
     while 0 < left {
         left -= 1;
-        let field = bay_length(offsets, tiles, bay);
+        let field = field_length(bay_list(bays, true, offsets, tiles, bay));
         total = capped_sum(total, capped_sum(field, separator_length(left)));
         bay += 1;
     }
     total
-}
-
-// The bytes of a bay's list.
-fn bay_length(offsets: &[usize], tiles: &[u32], bay: usize) -> usize
-    requires { ⌜ HasLists (now offsets) (now tiles) (bay + 1) ⌝ }
-    ensures { λ r. ⌜ r ≡ capped (length (spaced 0 (listOf (constraints true (now (offsets .entry)) (now (tiles .entry))) bay))) ⌝ }
-{
-    let from = offsets[bay];
-    let to = offsets[bay + 1];
-    field_length(&tiles[from..to])
 }
 
 // The bytes of a list's numbers with single spaces between them.
@@ -103,10 +102,4 @@ fn capped_sum(a: usize, b: usize) -> usize
         return 18446744073709551615;
     }
     a + b
-}
-
-fn wide(n: u32) -> u64
-    ensures { λ r. ⌜ r ≡ n ⌝ }
-{
-    n as u64
 }

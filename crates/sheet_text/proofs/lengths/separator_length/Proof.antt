@@ -1,7 +1,7 @@
--- `separator_length` meets its contract. Assumes nothing.
-use Rattle.sheet_lengths.proofs.Sums.{last-length, comma-length}
-use Rattle.sheet_lengths.proofs.separator_length.Statement.{statement}
-use Rattle.sheet_lengths.proofs.separator_length.Tie as tie
+-- `lengths::separator_length` meets its contract. Assumes nothing.
+use Rattle.sheet_text.proofs.Sums.{last-length, comma-length}
+use Rattle.sheet_text.proofs.lengths.separator_length.Statement.{statement}
+use Rattle.sheet_text.proofs.lengths.separator_length.Tie as tie
 
 returns : tie.Need-returns
 returns c = last-length (c .before .args .left) (c .if1 .taken)

@@ -1,13 +1,13 @@
--- `field_length` meets its contract: the invariant is that what is left of the list is still to be added. Assumes nothing.
+-- `lengths::field_length` meets its contract: the invariant is that what is left of the list is still to be added. Assumes nothing.
 use Prim.Native.Nat.{_-_}
 use native.Mathlib.Omega.{arith}
 use lib.ListN.{length, drop}
 use Rattle.sheet_text.specs.Written.{spaced}
 use Rattle.sheet_text.proofs.Parts.{field-end}
-use Rattle.sheet_lengths.proofs.Sums.{Summing, summing-starts, summing-ends, field-goes-on}
+use Rattle.sheet_text.proofs.Sums.{Summing, summing-starts, summing-ends, field-goes-on}
 use borrow.Author.Needs.{needs}
-use Rattle.sheet_lengths.proofs.field_length.Statement.{statement}
-use Rattle.sheet_lengths.proofs.field_length.Tie as tie
+use Rattle.sheet_text.proofs.lengths.field_length.Statement.{statement}
+use Rattle.sheet_text.proofs.lengths.field_length.Tie as tie
 
 abbrev Inv-loop : tie.InvT-loop
 Inv-loop list total₀ i₀ total i = Summing (spaced 0 list) (spaced i (drop i list)) total
@@ -17,24 +17,6 @@ abbrev μ-loop : tie.MeasureT-loop
 
 loop-holds : tie.Need-loop-holds Inv-loop μ-loop
 loop-holds c = summing-starts (spaced 0 (c .before .args .list .now))
-
-mul-wide : tie.Need-mul-wide Inv-loop μ-loop
-mul-wide c = search needs
-
-shared-slice-read-wide : tie.Need-shared-slice-read-wide Inv-loop μ-loop
-shared-slice-read-wide c = search needs
-
-wide-requires : tie.Need-wide-requires Inv-loop μ-loop
-wide-requires c κs = search needs
-
-number-length-requires : tie.Need-number-length-requires Inv-loop μ-loop
-number-length-requires c κs = search needs
-
-capped-sum-requires : tie.Need-capped-sum-requires Inv-loop μ-loop
-capped-sum-requires c κs = search needs
-
-add-i : tie.Need-add-i Inv-loop μ-loop
-add-i c = search needs
 
 loop-less : tie.Need-loop-less Inv-loop μ-loop
 loop-less c = omega arith
@@ -55,16 +37,5 @@ returns c =
 pub field-length-spec : {M : Type 1} → statement M
 field-length-spec =
     tie.close
-    (tie.spec
-    Inv-loop
-    μ-loop
-    loop-holds
-    mul-wide
-    shared-slice-read-wide
-    wide-requires
-    number-length-requires
-    capped-sum-requires
-    add-i
-    loop-less
-    loop-again
-    returns)
+    (tie.spec Inv-loop μ-loop loop-holds (λ c. search needs) (λ c. search needs) (λ c κs. search needs)
+    (λ c κs. search needs) (λ c κs. search needs) (λ c. search needs) loop-less loop-again returns)
