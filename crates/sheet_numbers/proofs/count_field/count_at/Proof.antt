@@ -1,15 +1,12 @@
--- `count_column::count_at` meets its contract. Assumes nothing.
+-- `count_field::count_at` meets its contract. Assumes nothing.
 use mathlib.Core.Path.{_∙_, ap}
 use native.Mathlib.Omega.{arith}
 use Rattle.sheet_fields.proofs.Bounds.{field-at-within}
 use Rattle.sheet_numbers.specs.Counts.{lessOne}
 use Rattle.sheet_numbers.proofs.QuotedNumbers.{count-read}
 use borrow.Author.Needs.{needs}
-use Rattle.sheet_numbers.proofs.count_column.count_at.Statement.{statement}
-use Rattle.sheet_numbers.proofs.count_column.count_at.Tie as tie
-
-field-at-requires : tie.Need-field-at-requires
-field-at-requires c κs = search needs
+use Rattle.sheet_numbers.proofs.count_field.count_at.Statement.{statement}
+use Rattle.sheet_numbers.proofs.count_field.count_at.Tie as tie
 
 number-between-requires : tie.Need-number-between-requires
 number-between-requires c κs =
@@ -17,9 +14,6 @@ number-between-requires c κs =
     let start = c .before .before in
     let w = field-at-within (start .args .text .now) (start .args .at) (start .pre) in
     rw (f .ensures) (w .ordered, let on = w .onward in let end = w .ends in omega arith)
-
-less-one-requires : tie.Need-less-one-requires
-less-one-requires c κs = search needs
 
 returns : tie.Need-returns
 returns c =
@@ -30,4 +24,5 @@ returns c =
 
 pub count-at-spec : {M : Type 1} → statement M
 count-at-spec =
-    tie.close (tie.spec field-at-requires number-between-requires less-one-requires returns)
+    tie.close
+    (tie.spec (λ c κs. search needs) number-between-requires (λ c κs. search needs) returns)

@@ -1,4 +1,4 @@
--- Laws of a key's texts: entries that are put from the first one on, and the flags of the second names. Assumes nothing.
+-- Laws of the flags of the second names: every second one of all. Assumes nothing.
 use Prim.Native.Nat.{ℕ, zero, suc, _+_, _-_, _*_, _≤_, _<_}
 use mathlib.Core.List.{List, _∷_, _++_, map}
 use mathlib.Core.Path.{_≡_, refl, ap, _∙_}
@@ -10,25 +10,9 @@ use lib.Seq.{sets, sets-eq, getD-drop, drop-drop}
 use Rattle.sheet_fields.specs.Fields.{content, after}
 use Rattle.sheet_fields.specs.Runs.{contents, past}
 use Rattle.sheet_records.specs.Tables.{columns}
-use Rattle.sheet_names.specs.Appended.{flagOf, Appended}
-use Rattle.sheet_names.specs.declared.Entries.{Entries}
-use Rattle.sheet_names.proofs.Appending.{appended-offsets}
+use Rattle.sheet_names.specs.Appended.{flagOf}
 use Rattle.sheet_names.proofs.Filling.{length-columns}
-use Rattle.sheet_keys.specs.SheetKeys.{TextsPut, seconds}
-
--- ---- entries
-
-module _ (records from count : ℕ) (sheet : List ℕ) (bytes : ℕ) (text offsets present : List ℕ) (stop : Entries) (text' offsets' present' : List ℕ)
-    (a : Appended text (set offsets 0 bytes) present (record { entries = 0; bytes = bytes }) (columns records 5 from count sheet) stop text' offsets' present') where
-  -- how many entries there are is told by the sheet
-  pub texts-are-put : TextsPut records from count sheet bytes text offsets present (stop .bytes) text' offsets' present'
-  texts-are-put =
-      record { counted = let k = a .counted in let l = length-columns records 5 from count sheet in omega arith; laid = a .laid; ended = a .ended; flagged = a .flagged }
-
-  pub texts-offsets : length offsets' ≡ length offsets
-  texts-offsets = appended-offsets a ∙ length-set offsets 0 bytes
-
--- ---- every second flag
+use Rattle.sheet_keys.specs.SheetKeys.{seconds}
 
 -- the flags of the first i keys have been put: those of the others end the table
 pub record InSeconds (records : ℕ) (flags old out : List ℕ) (i : ℕ) : Type 0 where
