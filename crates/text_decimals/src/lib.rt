@@ -62,14 +62,7 @@ fn ratio(negative: bool, n: u64, k: usize) -> f64
 fn whole_length(text: &[u8]) -> usize
     ensures { λ r. ⌜ r ≡ wholeLength (now (text .entry)) ⌝ }
 {
-    let mut i = 0;
-    while i < text.len() {
-        if text[i] == b'.' {
-            return i;
-        }
-        i += 1;
-    }
-    i
+    bytes::scan::find(text, 0, text.len(), b'.')
 }
 
 // What digits are worth after others that are worth n, where that is less than 10^15.
