@@ -6,8 +6,8 @@ use Rattle.text_digits.specs.Digits.{digit, allDigits, worth}
 use Rattle.units.specs.Refusals.{Verdict, passes, refuses, _▷_, ifPasses}
 use Rattle.sheet_fields.specs.Fields.{isPlain, plainLength, quotedLength, endingOf, fieldOf, bareField, quotedField, isQuoted, field, unquoted, raw, content, after}
 use Rattle.sheet_number_lists.specs.NumberLists.{joined, words, isPlainNumber, areNumbers, valueOf, isList, listIn}
-use Rattle.sheet_fields.specs.Runs.{past, goesOn}
-use Rattle.sheet_cells.specs.Cells.{isCell, cells, rowFault, sheetFault, sheetVerdict}
+use Rattle.sheet_fields.specs.Runs.{past, goesOn, recordFault}
+use Rattle.sheet_cells.specs.Cells.{isCell, cells, sheetFault, sheetVerdict}
 use Rattle.sheet.specs.Read.{gridVerdict, sheetLists}
 
 record Reading : Type 0 where
@@ -58,5 +58,5 @@ examples =
     ∷ []
 
 as-printed : map (λ (c : Case). c .given) examples ≡ map (λ (c : Case). c .printed) examples
-unfolding reading examples digit allDigits worth isPlain plainLength quotedLength endingOf fieldOf bareField quotedField isQuoted field unquoted raw content after joined words isPlainNumber areNumbers valueOf isList listIn isCell cells past goesOn rowFault sheetFault
+unfolding reading examples digit allDigits worth isPlain plainLength quotedLength endingOf fieldOf bareField quotedField isQuoted field unquoted raw content after joined words isPlainNumber areNumbers valueOf isList listIn isCell cells past goesOn recordFault sheetFault
 as-printed = refl

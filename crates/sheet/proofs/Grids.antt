@@ -6,17 +6,18 @@ use mathlib.Core.Path.{_≡_}
 use native.Mathlib.Nat.{mul-le-mul}
 use borrow.Author.Tests.{leb-true, not-false}
 use lib.Dec.{leb}
-use Rattle.text_digits.proofs.Worth.{and-left, and-right}
+use Rattle.units.proofs.Tests.{and-left, and-right}
+use Rattle.units.specs.Limits.{mostSide, fromOneTo}
 use Rattle.units.specs.Refusals.{passes}
 use Rattle.units.proofs.Verdicts.{no-fault}
-use Rattle.sheet.specs.Read.{isSide, gridVerdict}
+use Rattle.sheet.specs.Read.{gridVerdict}
 
-pub sides : (rows columns : ℕ) → gridVerdict rows columns ≡ passes → (rows ≤ 32) × (columns ≤ 32)
+pub sides : (rows columns : ℕ) → gridVerdict rows columns ≡ passes → (rows ≤ mostSide) × (columns ≤ mostSide)
 sides rows columns e =
-    let both = not-false (isSide rows && isSide columns) (no-fault (not (isSide rows && isSide columns)) 1 [] e) in
-    let r = leb-true rows 32 (and-right (leb 1 rows) (leb rows 32) (and-left (isSide rows) (isSide columns) both)) in
-    let c = leb-true columns 32 (and-right (leb 1 columns) (leb columns 32) (and-right (isSide rows) (isSide columns) both)) in
+    let both = not-false (fromOneTo mostSide rows && fromOneTo mostSide columns) (no-fault (not (fromOneTo mostSide rows && fromOneTo mostSide columns)) 1 [] e) in
+    let r = leb-true rows mostSide (and-right (leb 1 rows) (leb rows mostSide) (and-left (fromOneTo mostSide rows) (fromOneTo mostSide columns) both)) in
+    let c = leb-true columns mostSide (and-right (leb 1 columns) (leb columns mostSide) (and-right (fromOneTo mostSide rows) (fromOneTo mostSide columns) both)) in
     (r, c)
 
-pub few-bays : (rows columns : ℕ) → gridVerdict rows columns ≡ passes → rows * columns ≤ 1024
+pub few-bays : (rows columns : ℕ) → gridVerdict rows columns ≡ passes → rows * columns ≤ mostSide * mostSide
 few-bays rows columns e = let s = sides rows columns e in mul-le-mul (s .0) (s .1)

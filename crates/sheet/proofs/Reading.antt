@@ -12,6 +12,7 @@ use Rattle.units.specs.declared.Check.the-variants.{Refused}
 use Rattle.units.specs.declared.Refusal.{Refusal}
 use Rattle.units.specs.declared.CountAnswer.{CountAnswer}
 use Rattle.units.specs.declared.CountAnswer.the-variants.{Refused as Count·Refused}
+use Rattle.units.specs.Limits.{mostSide, fromOneTo}
 use Rattle.units.specs.Refusals.{Verdict, passes, refuses, refuseIf, _▷_, check, ifPasses, Prints}
 use Rattle.units.specs.Answers.{countAnswer, countRefusal}
 use Rattle.units.proofs.Verdicts.{Tabled, tabled-if, tabled-then, refused-first, refused-keeps}
@@ -20,7 +21,7 @@ use Rattle.sheet_cells.specs.Cells.{sheetFault, sheetVerdict, allTiles, starts,
 use Rattle.sheet_cells.specs.Checks.{countIn, areCells, sheetCheck}
 use Rattle.sheet_cells.specs.declared.SheetCheck.{SheetCheck}
 use Rattle.sheet_cells.proofs.Sheets.{sheet-cells}
-use Rattle.sheet.specs.Read.{isSide, gridVerdict, sheetLists, tileCount, readVerdict, readAnswer, offsetsAfter, tilesAfter}
+use Rattle.sheet.specs.Read.{gridVerdict, sheetLists, tileCount, readVerdict, readAnswer, offsetsAfter, tilesAfter}
 
 module _ (rows cols : ℕ) (text offsets tiles : List ℕ) where
   -- what the contract asks of the answer and of the slices at exit
@@ -33,7 +34,7 @@ module _ (rows cols : ℕ) (text offsets tiles : List ℕ) where
   -- every refusal has the values of its row
   read-tabled : Tabled (readVerdict rows cols text offsets tiles)
   read-tabled =
-      let grid = not (isSide rows && isSide cols) in
+      let grid = not (fromOneTo mostSide rows && fromOneTo mostSide cols) in
       let bad = ltb 0 (sheetFault cols 1 rows text .line) in
       let wrong = not (eqb (length offsets) (rows * cols + 1)) in
       let full = ltb (length tiles) (tileCount rows cols text) in

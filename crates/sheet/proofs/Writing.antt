@@ -13,6 +13,7 @@ use Rattle.units.specs.declared.Check.{Check}
 use Rattle.units.specs.declared.Check.the-variants.{Passed, Refused}
 use Rattle.units.specs.declared.CountAnswer.{CountAnswer}
 use Rattle.units.specs.declared.CountAnswer.the-variants.{Count, Refused as Count·Refused}
+use Rattle.units.specs.Limits.{mostSide, fromOneTo}
 use Rattle.units.specs.Refusals.{Verdict, passes, refuses, _▷_, refusal, check, ifPasses, Prints}
 use Rattle.units.specs.Answers.{countAnswer, countRefusal}
 use Rattle.units.proofs.Verdicts.{refused-first, passed, refused-keeps, no-fault, rest-passes, Tabled, tabled-if, tabled-then}
@@ -20,10 +21,10 @@ use Rattle.units.proofs.Answers.{a-count, refused, given}
 use Rattle.bay_lists.specs.Lists.{constraints, offsetsShaped}
 use Rattle.text_put.specs.Puts.{written, Put}
 use Rattle.sheet_cells.specs.Cells.{front}
-use Rattle.sheet_lengths.specs.Lengths.{capped}
-use Rattle.sheet.specs.Read.{isSide, gridVerdict}
+use Rattle.sheet_text.specs.Lengths.{capped}
+use Rattle.sheet.specs.Read.{gridVerdict}
 use Rattle.sheet.specs.Write.{sheetBytes, bytesNeeded, writeVerdict, writeAnswer, textAfter}
-use Rattle.sheet.specs.Room.{shapeVerdict, listsVerdict, roomVerdict, Filled}
+use Rattle.sheet.specs.Room.{offsetsVerdict, listsVerdict, bytesVerdict, TextFilled}
 
 -- ---- lists that passed
 
@@ -31,7 +32,7 @@ pub shape-passed : (rows columns : ℕ) (offsets tiles : List ℕ) → listsVerd
     → offsetsShaped (rows * columns) (constraints true offsets tiles) ≡ true
 shape-passed rows columns offsets tiles e =
     let shaped = offsetsShaped (rows * columns) (constraints true offsets tiles) in
-    not-false shaped (no-fault (not shaped) 5 [] (rest-passes (gridVerdict rows columns) (shapeVerdict rows columns offsets tiles) e))
+    not-false shaped (no-fault (not shaped) 5 [] (rest-passes (gridVerdict rows columns) (offsetsVerdict rows columns offsets tiles) e))
 
 -- ---- the text
 
@@ -44,11 +45,11 @@ front-written old text h =
     rw (all, take-length text, from)
 
 module _ (need : ℕ) (sheet old : List ℕ) (e : need ≡ capped (length sheet)) where
-  pub no-room : length old < need → Filled (capped (length sheet)) sheet old (Count·Refused (refusal 9 (need ∷ []))) old
+  pub no-room : length old < need → TextFilled (capped (length sheet)) sheet old (Count·Refused (refusal 9 (need ∷ []))) old
   no-room h = rw (← e) (record { answers = rw (lt-ltb (length old) need h); holds = rw (lt-ltb (length old) need h) })
 
   -- a slice is shorter than the largest usize, so that a need at which it is not stopped is the whole
-  pub filled : need ≤ length old → length old < 2 ^ 63 → (r : ℕ) (new : List ℕ) → Put old 0 sheet r new → Filled (capped (length sheet)) sheet old (Count r) new
+  pub filled : need ≤ length old → length old < 2 ^ 63 → (r : ℕ) (new : List ℕ) → Put old 0 sheet r new → TextFilled (capped (length sheet)) sheet old (Count r) new
   filled h small r new p =
       let fits : length sheet ≤ length old = omega arith in
       let count : r ≡ need = let place = p .place in omega arith in
@@ -59,9 +60,9 @@ module _ (need : ℕ) (sheet old : List ℕ) (e : need ≡ capped (length sheet)
 write-tabled : (rows columns : ℕ) (offsets tiles text : List ℕ) → Tabled (writeVerdict rows columns offsets tiles text)
 write-tabled rows columns offsets tiles text =
     let need = bytesNeeded rows columns offsets tiles in
-    let room = roomVerdict (length text) need in
-    let shape = shapeVerdict rows columns offsets tiles in
-    tabled-then (gridVerdict rows columns) (shape ▷ room) (tabled-if (not (isSide rows && isSide columns)) 1 [] refl)
+    let room = bytesVerdict (length text) need in
+    let shape = offsetsVerdict rows columns offsets tiles in
+    tabled-then (gridVerdict rows columns) (shape ▷ room) (tabled-if (not (fromOneTo mostSide rows && fromOneTo mostSide columns)) 1 [] refl)
     (tabled-then shape room (tabled-if (not (offsetsShaped (rows * columns) (constraints true offsets tiles))) 5 [] refl)
     (tabled-if (ltb (length text) need) 9 (need ∷ []) refl))
 
@@ -83,10 +84,10 @@ module _ (rows columns : ℕ) (offsets tiles old : List ℕ) where
   lists = listsVerdict rows columns offsets tiles
 
   abbrev room : Verdict
-  room = roomVerdict (length old) need
+  room = bytesVerdict (length old) need
 
   chain : writeVerdict rows columns offsets tiles old ≡ lists ▷ room
-  chain = regroup (gridVerdict rows columns) (shapeVerdict rows columns offsets tiles) room
+  chain = regroup (gridVerdict rows columns) (offsetsVerdict rows columns offsets tiles) room
 
   answered : {r : CountAnswer} {new : List ℕ} → r ≡ writeAnswer rows columns offsets tiles old → new ≡ textAfter rows columns offsets tiles old → Answers rows columns offsets tiles old r new
   answered e n = let p = given (a-count need) (writeVerdict rows columns offsets tiles old) (write-tabled rows columns offsets tiles old) e in (p .0, (p .1, n))
@@ -97,7 +98,7 @@ module _ (rows columns : ℕ) (offsets tiles old : List ℕ) where
       answered (refused (a-count need) (writeVerdict rows columns offsets tiles old) all refl)
       (refused-keeps (writeVerdict rows columns offsets tiles old) (front (sheetBytes rows columns offsets tiles) old) old all refl)
 
-  pub lists-pass : {x : Check} → x ≡ check lists → x ≡ Passed → {r : CountAnswer} {new : List ℕ} → Filled need (sheetBytes rows columns offsets tiles) old r new
+  pub lists-pass : {x : Check} → x ≡ check lists → x ≡ Passed → {r : CountAnswer} {new : List ℕ} → TextFilled need (sheetBytes rows columns offsets tiles) old r new
       → Answers rows columns offsets tiles old r new
   lists-pass e f w =
       let past : writeVerdict rows columns offsets tiles old ≡ room = chain ∙ ap (λ (v : Verdict). v ▷ room) (passed lists e f) in

@@ -1,20 +1,18 @@
 -- What reading a constraint sheet answers and writes. Assumes nothing.
 use Prim.Native.Nat.{ℕ, _+_, _*_}
-use mathlib.Core.Bool.{Bool, not, _&&_}
+use mathlib.Core.Bool.{not, _&&_}
 use mathlib.Core.List.{List, [], _∷_}
-use lib.Dec.{eqb, leb, ltb}
+use lib.Dec.{eqb, ltb}
 use lib.ListN.{length}
+use Rattle.units.specs.Limits.{mostSide, fromOneTo}
 use Rattle.units.specs.Refusals.{Verdict, refuseIf, ifPasses, _▷_}
 use Rattle.units.specs.Answers.{countAnswer}
 use Rattle.units.specs.declared.CountAnswer.{CountAnswer}
 use Rattle.sheet_cells.specs.Cells.{cells, sheetVerdict, allTiles, starts, front}
 
 -- 1: rows and columns from 1 to 32
-abbrev pub isSide : ℕ → Bool
-isSide n = leb 1 n && leb n 32
-
 abbrev pub gridVerdict : (rows columns : ℕ) → Verdict
-gridVerdict rows columns = refuseIf (not (isSide rows && isSide columns)) 1 []
+gridVerdict rows columns = refuseIf (not (fromOneTo mostSide rows && fromOneTo mostSide columns)) 1 []
 
 -- the lists of the sheet, row by row, and how many numbers they have in all
 abbrev pub sheetLists : (rows columns : ℕ) → List ℕ → List (List ℕ)

@@ -12,18 +12,18 @@ use Rattle.bay_lists.specs.Lists.{constraints, offsetsShaped}
 use Rattle.sheet_cells.specs.Cells.{front}
 use Rattle.sheet.specs.Read.{gridVerdict}
 
--- 5, and 1 before it
-abbrev pub shapeVerdict : (rows columns : ℕ) → (offsets tiles : List ℕ) → Verdict
-shapeVerdict rows columns offsets tiles = refuseIf (not (offsetsShaped (rows * columns) (constraints true offsets tiles))) 5 []
+-- 5, for offsets of the wrong shape, and 1 before it
+abbrev pub offsetsVerdict : (rows columns : ℕ) → (offsets tiles : List ℕ) → Verdict
+offsetsVerdict rows columns offsets tiles = refuseIf (not (offsetsShaped (rows * columns) (constraints true offsets tiles))) 5 []
 
 abbrev pub listsVerdict : (rows columns : ℕ) → (offsets tiles : List ℕ) → Verdict
-listsVerdict rows columns offsets tiles = gridVerdict rows columns ▷ shapeVerdict rows columns offsets tiles
+listsVerdict rows columns offsets tiles = gridVerdict rows columns ▷ offsetsVerdict rows columns offsets tiles
 
 -- 9, where a text of this length has no room for the bytes needed
-abbrev pub roomVerdict : (room need : ℕ) → Verdict
-roomVerdict room need = refuseIf (ltb room need) 9 (need ∷ [])
+abbrev pub bytesVerdict : (room need : ℕ) → Verdict
+bytesVerdict room need = refuseIf (ltb room need) 9 (need ∷ [])
 
 -- what is answered, and what a text holds afterwards, where the lists passed
-pub record Filled (need : ℕ) (sheet old : List ℕ) (answer : CountAnswer) (new : List ℕ) : Type 0 where
-  pub answers : answer ≡ countAnswer (roomVerdict (length old) need) need
-  pub holds : new ≡ ifPasses (roomVerdict (length old) need) (front sheet old) old
+pub record TextFilled (need : ℕ) (sheet old : List ℕ) (answer : CountAnswer) (new : List ℕ) : Type 0 where
+  pub answers : answer ≡ countAnswer (bytesVerdict (length old) need) need
+  pub holds : new ≡ ifPasses (bytesVerdict (length old) need) (front sheet old) old

@@ -1,16 +1,17 @@
 -- What writing a constraint sheet answers and writes. Assumes nothing.
-use Prim.Native.Nat.{ℕ, _-_, _*_, _^_, min}
-use mathlib.Core.Bool.{true, not}
-use mathlib.Core.List.{List, [], _∷_}
-use lib.Dec.{ltb}
+use Prim.Native.Nat.{ℕ}
+use mathlib.Core.Bool.{true}
+use mathlib.Core.List.{List}
 use lib.ListN.{length}
-use Rattle.units.specs.Refusals.{Verdict, refuseIf, ifPasses, _▷_}
+use Rattle.units.specs.Refusals.{Verdict, ifPasses, _▷_}
 use Rattle.units.specs.Answers.{countAnswer}
 use Rattle.units.specs.declared.CountAnswer.{CountAnswer}
-use Rattle.bay_lists.specs.Lists.{constraints, offsetsShaped}
+use Rattle.bay_lists.specs.Lists.{constraints}
 use Rattle.sheet_cells.specs.Cells.{front}
 use Rattle.sheet_text.specs.Written.{sheetText}
+use Rattle.sheet_text.specs.Lengths.{capped}
 use Rattle.sheet.specs.Read.{gridVerdict}
+use Rattle.sheet.specs.Room.{offsetsVerdict, bytesVerdict}
 
 -- the bytes of the sheet
 abbrev pub sheetBytes : (rows columns : ℕ) → (offsets tiles : List ℕ) → List ℕ
@@ -18,14 +19,14 @@ sheetBytes rows columns offsets tiles = sheetText (constraints true offsets tile
 
 -- how many they are, or the largest usize where they are more
 abbrev pub bytesNeeded : (rows columns : ℕ) → (offsets tiles : List ℕ) → ℕ
-bytesNeeded rows columns offsets tiles = min (length (sheetBytes rows columns offsets tiles)) (2 ^ 64 - 1)
+bytesNeeded rows columns offsets tiles = capped (length (sheetBytes rows columns offsets tiles))
 
 -- 1, 5 for offsets of the wrong shape, last 9 with the bytes needed
 abbrev pub writeVerdict : (rows columns : ℕ) → (offsets tiles text : List ℕ) → Verdict
 writeVerdict rows columns offsets tiles text =
     gridVerdict rows columns
-    ▷ refuseIf (not (offsetsShaped (rows * columns) (constraints true offsets tiles))) 5 []
-    ▷ refuseIf (ltb (length text) (bytesNeeded rows columns offsets tiles)) 9 (bytesNeeded rows columns offsets tiles ∷ [])
+    ▷ offsetsVerdict rows columns offsets tiles
+    ▷ bytesVerdict (length text) (bytesNeeded rows columns offsets tiles)
 
 abbrev pub writeAnswer : (rows columns : ℕ) → (offsets tiles text : List ℕ) → CountAnswer
 writeAnswer rows columns offsets tiles text = countAnswer (writeVerdict rows columns offsets tiles text) (bytesNeeded rows columns offsets tiles)

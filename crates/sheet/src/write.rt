@@ -6,11 +6,11 @@ ghost use Rattle.units.specs.Refusals.{check, Prints};
 ghost use Rattle.units.specs.Answers.{countRefusal};
 ghost use Rattle.bay_lists.specs.Lists.{constraints, offsetsShaped};
 ghost use Rattle.sheet.specs.Write.{sheetBytes, bytesNeeded, writeVerdict, writeAnswer, textAfter};
-ghost use Rattle.sheet.specs.Room.{listsVerdict, Filled};
+ghost use Rattle.sheet.specs.Room.{listsVerdict, TextFilled};
 use crate::grid::check_grid;
 use bay_lists::offsets_shaped;
-use sheet_lengths::sheet_length;
 use sheet_text::put_sheet;
+use sheet_text::sheet_length;
 use units::Check;
 use units::CountAnswer;
 use units::Refusal;
@@ -44,11 +44,7 @@ fn check_lists(rows: usize, columns: usize, offsets: &[usize], tiles: &[u32]) ->
     if offsets_shaped(rows * columns, true, offsets, tiles) {
         return Check::Passed;
     }
-    Check::Refused(Refusal {
-        number: 5,
-        first: 0,
-        second: 0,
-    })
+    units::refused(5)
 }
 
 // Refusal 9, or the sheet of lists that passed their tests.
@@ -60,7 +56,11 @@ fn fill_text(
     text: &mut [u8],
 ) -> CountAnswer
     requires { ⌜ offsetsShaped (rows * columns) (constraints true (now offsets) (now tiles)) ≡ true ⌝ }
-    ensures { λ r. ⌜ Filled (bytesNeeded rows columns (now (offsets .entry)) (now (tiles .entry))) (sheetBytes rows columns (now (offsets .entry)) (now (tiles .entry))) (now (text .entry)) r (now (text .exit)) ⌝ }
+    ensures { λ r.
+        let offsets' = now (offsets .entry) in
+        let tiles' = now (tiles .entry) in
+        ⌜ TextFilled (bytesNeeded rows columns offsets' tiles') (sheetBytes rows columns offsets' tiles')
+        (now (text .entry)) r (now (text .exit)) ⌝ }
 {
     let need = sheet_length(rows, columns, offsets, tiles);
     if text.len() < need {

@@ -6,7 +6,7 @@ use mathlib.Core.Path.{_≡_, refl}
 use native.Mathlib.Nat.{zero-add, suc-add}
 use native.Mathlib.Omega.{arith}
 use lib.ListN.{length, length-append}
-use Rattle.text_digits.proofs.Worth.{and-left, and-right}
+use Rattle.units.proofs.Tests.{and-left, and-right}
 use Rattle.sheet_fields.specs.Fields.{content, after}
 use Rattle.sheet_fields.specs.Runs.{past, bytesIn}
 use Rattle.sheet_number_lists.specs.NumberLists.{listIn}

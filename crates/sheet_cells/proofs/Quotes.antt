@@ -8,7 +8,7 @@ use borrow.Author.Tests.{eqb-true, leb-true}
 use lib.Dec.{eqb, leb, ltb}
 use lib.ListN.{length, length-map}
 use Rattle.text_digits.specs.Digits.{digit, allDigits}
-use Rattle.text_digits.proofs.Worth.{and-left, and-right}
+use Rattle.units.proofs.Tests.{and-left, and-right}
 use Rattle.sheet_fields.specs.Fields.{field, raw, content}
 use Rattle.sheet_fields.proofs.Bounds.{raw-length}
 use Rattle.sheet_fields.proofs.Quotes.{hasQuote, content-same, read-content}
@@ -21,8 +21,8 @@ unfoldable digitsOnly : List (List ℕ) → Bool
 digitsOnly [] = true
 digitsOnly (w ∷ ws) = allDigits 10 w && digitsOnly ws
 
-both : (a b : Bool) → a ≡ true → b ≡ true → a && b ≡ true
-both a b p q = rw (p, q)
+both-hold : (a b : Bool) → a ≡ true → b ≡ true → a && b ≡ true
+both-hold a b p q = rw (p, q)
 
 numbers-digits : (ws : List (List ℕ)) → areNumbers ws ≡ true → digitsOnly ws ≡ true
 unfolding areNumbers digitsOnly isPlainNumber
@@ -30,7 +30,7 @@ numbers-digits [] e = refl
 numbers-digits (w ∷ ws) e =
     let number = and-left (isPlainNumber w) (areNumbers ws) e in
     let digits = and-left (allDigits 10 w) _ (and-right (leb 1 (length w)) _ number) in
-    both (allDigits 10 w) (digitsOnly ws) digits (numbers-digits ws (and-right (isPlainNumber w) (areNumbers ws) e))
+    both-hold (allDigits 10 w) (digitsOnly ws) digits (numbers-digits ws (and-right (isPlainNumber w) (areNumbers ws) e))
 
 joined-digits : (b : ℕ) (ws : List (List ℕ)) → digitsOnly (joined b ws) ≡ true → (ltb (digit b) 10 ≡ true) × (digitsOnly ws ≡ true)
 unfolding digitsOnly joined allDigits
@@ -38,7 +38,7 @@ joined-digits b [] e = (and-left (ltb (digit b) 10) true (and-left (ltb (digit b
 joined-digits b (w ∷ ws) e =
     let first = and-left (ltb (digit b) 10 && allDigits 10 w) (digitsOnly ws) e in (
       and-left (ltb (digit b) 10) (allDigits 10 w) first,
-      both (allDigits 10 w) (digitsOnly ws) (and-right (ltb (digit b) 10) (allDigits 10 w) first) (and-right (ltb (digit b) 10 && allDigits 10 w) (digitsOnly ws) e),
+      both-hold (allDigits 10 w) (digitsOnly ws) (and-right (ltb (digit b) 10) (allDigits 10 w) first) (and-right (ltb (digit b) 10 && allDigits 10 w) (digitsOnly ws) e),
     )
 
 pub no-quote-digit : (b : ℕ) → ltb (digit b) 10 ≡ true → eqb b 34 ≡ false

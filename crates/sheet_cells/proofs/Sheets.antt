@@ -8,10 +8,10 @@ use native.Mathlib.Omega.{arith}
 use borrow.Author.Tests.{eq-eqb, ne-eqb, eqb-true}
 use lib.Dec.{eqb}
 use lib.ListN.{length, drop, length-drop}
-use Rattle.sheet_fields.specs.Runs.{past, bytesIn}
-use Rattle.sheet_fields.proofs.Runs.{bytes-within, past-at}
-use Rattle.sheet_cells.specs.Cells.{rowFault, place, sheetFault}
-use Rattle.sheet_cells.specs.Checks.{countIn, areCells, recordFault, recordAt, sheetCheck}
+use Rattle.sheet_fields.specs.Runs.{past, bytesIn, recordFault}
+use Rattle.sheet_fields.proofs.Runs.{place-within, past-at}
+use Rattle.sheet_cells.specs.Cells.{isCell, place, sheetFault}
+use Rattle.sheet_cells.specs.Checks.{countIn, areCells, lineFault, recordAt, sheetCheck}
 use Rattle.sheet_cells.specs.declared.SheetCheck.{SheetCheck}
 use Rattle.sheet_cells.specs.declared.cells.RecordCheck.{RecordCheck}
 use Rattle.sheet_cells.proofs.Counts.{count-none, count-add, cells-add, count-within}
@@ -22,21 +22,21 @@ use Rattle.sheet_cells.proofs.Records.{fault-none}
 -- the first record's fault is the sheet's, and where it has none the others tell
 module _ (columns line left : ℕ) (t : List ℕ) where
   pub sheet-step : sheetFault columns line (suc left) t
-      ≡ cond (eqb (recordFault columns t) 0) (sheetFault columns (line + 1) left (past columns t)) (place line (recordFault columns t))
-  unfolding sheetFault recordFault
+      ≡ cond (eqb (lineFault columns t) 0) (sheetFault columns (line + 1) left (past columns t)) (place line (lineFault columns t))
+  unfolding sheetFault lineFault
   sheet-step = go (eqb (length t) 0)
     where
-      go : (e : Bool) → cond e (place line 1) (cond (eqb (rowFault 1 columns t) 0) (sheetFault columns (line + 1) left (past columns t)) (place line (rowFault 1 columns t)))
-          ≡ cond (eqb (cond e 1 (rowFault 1 columns t)) 0) (sheetFault columns (line + 1) left (past columns t)) (place line (cond e 1 (rowFault 1 columns t)))
+      go : (e : Bool) → cond e (place line 1) (cond (eqb (recordFault isCell 1 columns t) 0) (sheetFault columns (line + 1) left (past columns t)) (place line (recordFault isCell 1 columns t)))
+          ≡ cond (eqb (cond e 1 (recordFault isCell 1 columns t)) 0) (sheetFault columns (line + 1) left (past columns t)) (place line (cond e 1 (recordFault isCell 1 columns t)))
       go true = refl
       go false = refl
 
   -- a record without a fault has cells only
-  record-cells : recordFault columns t ≡ 0 → areCells columns t ≡ true
-  unfolding recordFault
+  record-cells : lineFault columns t ≡ 0 → areCells columns t ≡ true
+  unfolding lineFault
   record-cells e = go (eqb (length t) 0) e
     where
-      go : (q : Bool) → cond q 1 (rowFault 1 columns t) ≡ 0 → areCells columns t ≡ true
+      go : (q : Bool) → cond q 1 (recordFault isCell 1 columns t) ≡ 0 → areCells columns t ≡ true
       go true k = absurd (omega arith)
       go false k = fault-none 0 columns t k
 
@@ -48,15 +48,15 @@ more-bays columns left = suc-mul left columns ∙ add-comm (left * columns) colu
 sheet-cells-from : (columns line left : ℕ) (t : List ℕ) → sheetFault columns (line + 1) left t .line ≡ 0 → areCells (left * columns) t ≡ true
 unfolding areCells
 sheet-cells-from columns line zero t e = rw (zero-mul columns)
-sheet-cells-from columns line (suc left) t e = go (eqb (recordFault columns t) 0) refl (rw (sheet-step columns (line + 1) left t) at e)
+sheet-cells-from columns line (suc left) t e = go (eqb (lineFault columns t) 0) refl (rw (sheet-step columns (line + 1) left t) at e)
     (λ h. sheet-cells-from columns (line + 1) left (past columns t) h)
   where
-    go : (q : Bool) → eqb (recordFault columns t) 0 ≡ q
-        → cond q (sheetFault columns (line + 1 + 1) left (past columns t)) (place (line + 1) (recordFault columns t)) .line ≡ 0
+    go : (q : Bool) → eqb (lineFault columns t) 0 ≡ q
+        → cond q (sheetFault columns (line + 1 + 1) left (past columns t)) (place (line + 1) (lineFault columns t)) .line ≡ 0
         → (sheetFault columns (line + 1 + 1) left (past columns t) .line ≡ 0 → areCells (left * columns) (past columns t) ≡ true)
         → areCells (suc left * columns) t ≡ true
     go true k h more =
-        let here = record-cells columns 0 0 t (eqb-true (recordFault columns t) 0 k) in
+        let here = record-cells columns 0 0 t (eqb-true (lineFault columns t) 0 k) in
         rw (more-bays columns left, cells-add columns (left * columns) t, here) (more h)
     go false k h more = absurd (omega arith)
 
@@ -116,26 +116,26 @@ module _ (rows columns : ℕ) (text : List ℕ) (line next count : ℕ) (s : InS
     abbrev here : List ℕ
     here = drop next text
 
-    step : sheetFault columns 1 rows text ≡ cond (eqb (recordFault columns here) 0) (sheetFault columns (line + 1 + 1) left (past columns here)) (place (line + 1) (recordFault columns here))
+    step : sheetFault columns 1 rows text ≡ cond (eqb (lineFault columns here) 0) (sheetFault columns (line + 1 + 1) left (past columns here)) (place (line + 1) (lineFault columns here))
     step = s .fault ∙ rw one-more (sheet-step columns (line + 1) left here)
 
     pub sheet-stops : (c .fault ≡ 0 → ⊥) → _≡_ {A = SheetCheck} (record { line = line + 1; field = c .fault; count = 0 }) (sheetCheck rows columns text)
-    sheet-stops some = go (eqb (recordFault columns here) 0) refl
+    sheet-stops some = go (eqb (lineFault columns here) 0) refl
       where
-        go : (q : Bool) → eqb (recordFault columns here) 0 ≡ q → _≡_ {A = SheetCheck} (record { line = line + 1; field = c .fault; count = 0 }) (sheetCheck rows columns text)
+        go : (q : Bool) → eqb (lineFault columns here) 0 ≡ q → _≡_ {A = SheetCheck} (record { line = line + 1; field = c .fault; count = 0 }) (sheetCheck rows columns text)
         go true k = absurd (some (ap (λ (d : RecordCheck). d .fault) e ∙ rw k))
         go false k =
-            let found : sheetFault columns 1 rows text ≡ place (line + 1) (recordFault columns here) = step ∙ rw k in
-            let same : c .fault ≡ recordFault columns here = ap (λ (d : RecordCheck). d .fault) e ∙ rw k in
+            let found : sheetFault columns 1 rows text ≡ place (line + 1) (lineFault columns here) = step ∙ rw k in
+            let same : c .fault ≡ lineFault columns here = ap (λ (d : RecordCheck). d .fault) e ∙ rw k in
             let one : eqb (line + 1) 0 ≡ false = ne-eqb (line + 1) 0 (omega arith) in
             rw (found, same, one)
 
     module _ (none : c .fault ≡ 0) where
-      fine : recordFault columns here ≡ 0
-      fine = go (eqb (recordFault columns here) 0) refl
+      fine : lineFault columns here ≡ 0
+      fine = go (eqb (lineFault columns here) 0) refl
         where
-          go : (q : Bool) → eqb (recordFault columns here) 0 ≡ q → recordFault columns here ≡ 0
-          go true k = eqb-true (recordFault columns here) 0 k
+          go : (q : Bool) → eqb (lineFault columns here) 0 ≡ q → lineFault columns here ≡ 0
+          go true k = eqb-true (lineFault columns here) 0 k
           go false k = sym (ap (λ (d : RecordCheck). d .fault) e ∙ rw k) ∙ none
 
       next-is : c .next ≡ next + bytesIn columns here
@@ -154,10 +154,7 @@ module _ (rows columns : ℕ) (text : List ℕ) (line next count : ℕ) (s : InS
           omega (arith, count-is, next-is)
 
       pub inside-more : c .next ≤ length text
-      inside-more =
-          let i = s .inside in
-          let b : bytesIn columns here ≤ length text - next = rw (← length-drop next text) (bytes-within columns here) in
-          omega (arith, next-is)
+      inside-more = place-within text next columns (c .next) (s .inside) next-is
 
       pub sheet-goes-on : InSheet rows columns text (line + 1) (c .next) (count + c .count)
       sheet-goes-on =
@@ -165,6 +162,6 @@ module _ (rows columns : ℕ) (text : List ℕ) (line next count : ℕ) (s : InS
             within = omega arith;
             inside = inside-more;
             few = few-more;
-            fault = step ∙ rw (eq-eqb (recordFault columns here) 0 fine, rest);
+            fault = step ∙ rw (eq-eqb (lineFault columns here) 0 fine, rest);
             sum = s .sum ∙ rw (one-more, more-bays columns left, count-add columns (left * columns) here, rest, count-is) (omega arith);
           }

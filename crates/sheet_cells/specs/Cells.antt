@@ -7,7 +7,7 @@ use lib.ListN.{length}
 pub use Rattle.text_fronts.specs.Front.{front}
 use Rattle.units.specs.Refusals.{Verdict, refuseIf}
 use Rattle.sheet_fields.specs.Fields.{field, content, after}
-use Rattle.sheet_fields.specs.Runs.{past, goesOn}
+use Rattle.sheet_fields.specs.Runs.{past, recordFault}
 use Rattle.sheet_number_lists.specs.NumberLists.{isList, listIn}
 use Rattle.sheet_cells.specs.declared.Place.{Place}
 
@@ -20,11 +20,6 @@ unfoldable pub cells : ℕ → List ℕ → List (List ℕ)
 cells zero t = []
 cells (suc k) t = listIn (content t) ∷ cells k (after t)
 
--- of a record, the number of the first field that is bad, missing or surplus; 0 where none is
-unfoldable pub rowFault : (column left : ℕ) → List ℕ → ℕ
-rowFault column zero t = 0
-rowFault column (suc left) t = cond (isCell t) (cond (goesOn left t) (rowFault (column + 1) left (after t)) (column + 1)) column
-
 abbrev pub place : (line number : ℕ) → Place
 place line number = record { line = line; field = number }
 
@@ -34,7 +29,7 @@ sheetFault columns line zero t = cond (eqb (length t) 0) (place 0 0) (place line
 sheetFault columns line (suc left) t =
     cond (eqb (length t) 0)
     (place line 1)
-    (cond (eqb (rowFault 1 columns t) 0) (sheetFault columns (line + 1) left (past columns t)) (place line (rowFault 1 columns t)))
+    (cond (eqb (recordFault isCell 1 columns t) 0) (sheetFault columns (line + 1) left (past columns t)) (place line (recordFault isCell 1 columns t)))
 
 -- 19, with line and field from 1, of the first bad, missing or surplus field
 abbrev pub sheetVerdict : (rows columns : ℕ) → List ℕ → Verdict

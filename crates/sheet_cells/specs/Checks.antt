@@ -2,12 +2,12 @@
 use Prim.Native.Nat.{ℕ, zero, suc, _+_, _*_}
 use mathlib.Core.Bool.{Bool, true, cond, _&&_}
 use mathlib.Core.List.{List}
-use lib.Dec.{eqb, ltb}
+use lib.Dec.{eqb}
 use lib.ListN.{length, drop}
 use Rattle.sheet_fields.specs.Fields.{field, content, after}
-use Rattle.sheet_fields.specs.Runs.{bytesIn}
+use Rattle.sheet_fields.specs.Runs.{bytesIn, recordFault}
 use Rattle.sheet_number_lists.specs.NumberLists.{listIn}
-use Rattle.sheet_cells.specs.Cells.{isCell, cells, rowFault, sheetFault, allTiles}
+use Rattle.sheet_cells.specs.Cells.{isCell, cells, sheetFault, allTiles}
 use Rattle.sheet_cells.specs.declared.cells.Cell.{Cell}
 use Rattle.sheet_cells.specs.declared.cells.RecordCheck.{RecordCheck}
 use Rattle.sheet_cells.specs.declared.SheetCheck.{SheetCheck}
@@ -31,20 +31,16 @@ cellAt text at =
       count = cond (isCell (drop at text)) (length (listIn (content (drop at text)))) 0;
     }
 
--- the number of the field that a cell shows to be bad, missing or surplus, where so many fields are left behind it; 0 where none is
-abbrev pub cellFault : (number left : ℕ) → Cell → ℕ
-cellFault number left c = cond (c .sound) (cond (cond (c .more) (ltb 0 left) (eqb left 0)) 0 (number + 1)) number
-
--- the number of the first fault in the record at the front of a text: of a record that is missing the first field is
-unfoldable pub recordFault : (columns : ℕ) → List ℕ → ℕ
-recordFault columns t = cond (eqb (length t) 0) 1 (rowFault 1 columns t)
+-- the number of the first fault in the line at the front of a text: of one that is missing the first field is
+unfoldable pub lineFault : (columns : ℕ) → List ℕ → ℕ
+lineFault columns t = cond (eqb (length t) 0) 1 (recordFault isCell 1 columns t)
 
 -- the record at a place: its first fault, and where it has none the place after it and how many numbers it has
 abbrev pub recordAt : (columns : ℕ) → List ℕ → ℕ → RecordCheck
 recordAt columns text at =
-    cond (eqb (recordFault columns (drop at text)) 0)
+    cond (eqb (lineFault columns (drop at text)) 0)
     (record { fault = 0; next = at + bytesIn columns (drop at text); count = countIn columns (drop at text) })
-    (record { fault = recordFault columns (drop at text); next = at; count = 0 })
+    (record { fault = lineFault columns (drop at text); next = at; count = 0 })
 
 -- the sheet's first fault, and where it has none how many numbers it has
 abbrev pub sheetCheck : (rows columns : ℕ) → List ℕ → SheetCheck

@@ -1,12 +1,12 @@
 // The fields of a sheet one by one, and the fields of one record.
 ghost use mathlib.Core.Path.{_≡_};
-ghost use mathlib.Core.Bool.{cond};
 ghost use Prim.Native.Nat.{_-_, _≤_};
-ghost use lib.Dec.{eqb, ltb};
 ghost use lib.ListN.{length, take, drop};
+ghost use Rattle.units.specs.Limits.{mostSide};
 ghost use Rattle.sheet_number_lists.specs.Counts.{listCount};
-ghost use Rattle.sheet_cells.specs.Checks.{cellAt, cellFault, recordAt};
+ghost use Rattle.sheet_cells.specs.Checks.{cellAt, recordAt};
 use sheet_fields::field_at;
+use sheet_fields::field_fault;
 use sheet_number_lists::ListCount;
 use sheet_number_lists::count_numbers;
 
@@ -28,7 +28,7 @@ pub(crate) struct RecordCheck {
 
 // Tests the record at a place: of one that is missing the first field is.
 pub(crate) fn check_record(text: &[u8], at: usize, columns: usize) -> RecordCheck
-    requires { ⌜ (at ≤ length (now text)) × (columns ≤ 32) ⌝ }
+    requires { ⌜ (at ≤ length (now text)) × (columns ≤ mostSide) ⌝ }
     ensures { λ r. ⌜ r ≡ recordAt columns (now (text .entry)) at ⌝ }
 {
     let mut next = at;
@@ -44,7 +44,7 @@ pub(crate) fn check_record(text: &[u8], at: usize, columns: usize) -> RecordChec
     while i < columns {
         let cell = cell_at(text, next);
         let number = i + 1;
-        let fault = cell_fault(number, columns - number, cell);
+        let fault = field_fault(number, columns - number, cell.sound, cell.more);
         if fault != 0 {
             return RecordCheck {
                 fault: fault,
@@ -61,30 +61,6 @@ pub(crate) fn check_record(text: &[u8], at: usize, columns: usize) -> RecordChec
         next: next,
         count: count,
     }
-}
-
-// The number of the field that a cell shows to be bad, missing or surplus, 0 where none is.
-fn cell_fault(number: usize, left: usize, cell: Cell) -> usize
-    requires { ⌜ number ≤ 32 ⌝ }
-    ensures { λ r. ⌜ r ≡ cellFault number left cell ⌝ }
-{
-    if !cell.sound {
-        return number;
-    }
-    if goes_on(cell.more, left) {
-        return 0;
-    }
-    number + 1
-}
-
-// Whether a record goes on exactly where fields are left.
-fn goes_on(more: bool, left: usize) -> bool
-    ensures { λ r. ⌜ r ≡ cond more (ltb 0 left) (eqb left 0) ⌝ }
-{
-    if more {
-        return 0 < left;
-    }
-    left == 0
 }
 
 // The field at a place, tested.

@@ -1,6 +1,7 @@
 // A sheet over a grid of bays: a test of all of its fields, field by field from the front.
 ghost use mathlib.Core.Path.{_≡_};
 ghost use Prim.Native.Nat.{_≤_};
+ghost use Rattle.units.specs.Limits.{mostSide};
 ghost use Rattle.sheet_cells.specs.Checks.{sheetCheck};
 
 mod cells;
@@ -22,7 +23,7 @@ pub struct SheetCheck {
 
 // Tests a sheet field by field: the first that is bad, missing or surplus, or the count of all numbers.
 pub fn check_sheet(text: &[u8], rows: usize, columns: usize) -> SheetCheck
-    requires { ⌜ (rows ≤ 32) × (columns ≤ 32) ⌝ }
+    requires { ⌜ (rows ≤ mostSide) × (columns ≤ mostSide) ⌝ }
     ensures { λ r. ⌜ r ≡ sheetCheck rows columns (now (text .entry)) ⌝ }
 {
     let mut line = 0;

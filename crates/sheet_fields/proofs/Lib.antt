@@ -1,4 +1,6 @@
 pub mod Bounds
+pub mod Faults
+pub mod Passing
 pub mod Quotes
 pub mod Runs
 pub mod Scanning

@@ -19,6 +19,12 @@ bytes-within (suc k) t =
     let more : bytesIn k (drop n t) ≤ length t - n = rw (← length-drop n t) (bytes-within k (drop n t)) in
     omega arith
 
+-- a place some fields further on stands in the text
+pub place-within : (text : List ℕ) (at k to : ℕ) → at ≤ length text → to ≡ at + bytesIn k (drop at text) → to ≤ length text
+place-within text at k to h e =
+    let most : bytesIn k (drop at text) ≤ length text - at = rw (← length-drop at text) (bytes-within k (drop at text)) in
+    omega arith
+
 pub drop-bytes : (k : ℕ) (t : List ℕ) → drop (bytesIn k t) t ≡ past k t
 unfolding bytesIn past after
 drop-bytes zero t = refl

@@ -23,3 +23,16 @@ bytesIn (suc k) t = field t .next + bytesIn k (after t)
 -- the field at the front is followed by another one of its record exactly where fields are left
 unfoldable pub goesOn : (left : ℕ) → List ℕ → Bool
 goesOn left t = cond (field t .more) (ltb 0 left) (eqb left 0)
+
+-- the field at the front is sound, whatever its content
+unfoldable pub isSound : List ℕ → Bool
+isSound t = field t .sound
+
+-- of a record with so many fields left, the number of the first that fails a test, is missing or surplus, counted on from a number; 0 where none does
+unfoldable pub recordFault : (test : List ℕ → Bool) → (number left : ℕ) → List ℕ → ℕ
+recordFault test number zero t = 0
+recordFault test number (suc left) t = cond (test t) (cond (goesOn left t) (recordFault test (number + 1) left (after t)) (number + 1)) number
+
+-- the same of one field: whether it passed its test, and whether its record goes on
+abbrev pub fieldFault : (number left : ℕ) → (passed more : Bool) → ℕ
+fieldFault number left passed more = cond passed (cond (cond more (ltb 0 left) (eqb left 0)) 0 (number + 1)) number

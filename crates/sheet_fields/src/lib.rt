@@ -3,10 +3,14 @@
 // A record is a line of fields with commas between them; a field is bare or in quotes. A line ends with CR LF, with LF
 // alone, or with the text. Nothing is copied: a field is told by its places in the caller's own text.
 ghost use mathlib.Core.Path.{_≡_};
+ghost use mathlib.Core.Bool.{cond};
 ghost use Prim.Native.Nat.{_+_, _^_, _<_};
-ghost use lib.ListN.{length, drop, getD};
+ghost use lib.Dec.{eqb, ltb};
+ghost use lib.ListN.{length, drop};
 ghost use Rattle.sheet_fields.specs.Fields.{isPlain, plainLength, quotedLength, endingOf, bareField, quotedField, moved, fieldAt};
+ghost use Rattle.sheet_fields.specs.Runs.{fieldFault};
 ghost use Rattle.sheet_fields.specs.Scan.{quotedStep, placed};
+use text_fronts::byte_at;
 
 // How a field ends: sound, with more fields of its record to come, and how many bytes the end takes.
 pub struct Ending {
@@ -148,16 +152,7 @@ fn plain_end(text: &[u8], at: usize) -> usize
 fn is_plain(b: u8) -> bool
     ensures { λ r. ⌜ r ≡ isPlain b ⌝ }
 {
-    if b == b',' {
-        return false;
-    }
-    if b == b'"' {
-        return false;
-    }
-    if b == b'\n' {
-        return false;
-    }
-    b != b'\r'
+    !((b == b',') | ((b == b'"') | ((b == b'\r') | (b == b'\n'))))
 }
 
 // Where the quote that closes a field stands, its content starting at a place; the text's end where none does.
@@ -189,12 +184,27 @@ fn quoted_step(text: &[u8], at: usize) -> usize
     0
 }
 
-// The byte at a place, 0 past the end.
-fn byte_at(text: &[u8], at: usize) -> u8
-    ensures { λ r. ⌜ r ≡ getD (now (text .entry)) at 0 ⌝ }
+// The number of the field that a field shows to be bad, missing or surplus, 0 where none is: whether it passed its test, whether its
+// record goes on, and how many fields are left behind it.
+pub fn field_fault(number: usize, left: usize, passed: bool, more: bool) -> usize
+    requires { ⌜ number < 2 ^ 32 ⌝ }
+    ensures { λ r. ⌜ r ≡ fieldFault number left passed more ⌝ }
 {
-    if at < text.len() {
-        return text[at];
+    if !passed {
+        return number;
     }
-    0
+    if goes_on(more, left) {
+        return 0;
+    }
+    number + 1
+}
+
+// Whether a record goes on exactly where fields are left.
+fn goes_on(more: bool, left: usize) -> bool
+    ensures { λ r. ⌜ r ≡ cond more (ltb 0 left) (eqb left 0) ⌝ }
+{
+    if more {
+        return 0 < left;
+    }
+    left == 0
 }

@@ -10,11 +10,12 @@ use Rattle.name_glues.specs.Names.{GlueNames as Names, glueNames as names}
 use Rattle.name_registering.proofs.Answered.{asked, Answered}
 use Rattle.sheet_records.specs.Tables.{columns}
 use Rattle.sheet_names.specs.Appended.{flagOf, ends, Appended}
+use Rattle.sheet_names.specs.FrontFilled.{noEntries, FrontFilled}
 use Rattle.sheet_names.specs.declared.Entries.{Entries}
 use Rattle.sheet_names.proofs.Appending.{append-as, then-append, appended-offsets}
 use Rattle.sheet_names.proofs.Filling.{length-columns}
 use Rattle.sheet_names.proofs.Fronts.{front-text, front-offsets, front-present}
-use Rattle.sheet_glues.specs.SheetGlues.{glueNames, noEntries, allEntries, laidNames, Registers}
+use Rattle.sheet_glues.specs.SheetGlues.{glueNames, bytesLaid, laidNames, Registers}
 
 -- how many names there are
 pub length-glues : (rows cols strands : ℕ) (strandSheet scaffoldSheet : List ℕ) → length (glueNames rows cols strands strandSheet scaffoldSheet) ≡ (strands - 1) * 5 + rows * cols
@@ -30,9 +31,9 @@ whole-rows rows cols = ap (λ (n : ℕ). rows * n) (sub-zero cols)
 
 -- the scaffold's names are laid behind the strands'
 pub glues-laid : (rows cols strands : ℕ) (strandSheet scaffoldSheet : List ℕ) {text offsets present : List ℕ} {first : Entries} {text' offsets' present' : List ℕ} {stop : Entries} {text'' offsets'' present'' : List ℕ}
-    → Appended text offsets present noEntries (columns (strands - 1) 7 2 5 strandSheet) first text' offsets' present'
+    → Appended text offsets present (noEntries 0) (columns (strands - 1) 7 2 5 strandSheet) first text' offsets' present'
     → Appended text' offsets' present' first (columns rows cols 0 (cols - 0) scaffoldSheet) stop text'' offsets'' present''
-    → Appended text offsets present noEntries (glueNames rows cols strands strandSheet scaffoldSheet) stop text'' offsets'' present''
+    → Appended text offsets present (noEntries 0) (glueNames rows cols strands strandSheet scaffoldSheet) stop text'' offsets'' present''
 unfolding glueNames
 glues-laid rows cols strands strandSheet scaffoldSheet a b =
     then-append a (omega arith) (append-as (ap (λ (count : ℕ). columns rows cols 0 count scaffoldSheet) (sub-zero cols)) b)
@@ -44,9 +45,9 @@ first-offset [] h = absurd (omega arith)
 first-offset (x ∷ xs) h = refl
 
 module _ {text : List ℕ} (offsets : List ℕ) {present : List ℕ} {entries : List (List ℕ)} {stop : Entries} {text' offsets' present' : List ℕ}
-    (a : Appended text (set offsets 0 0) present noEntries entries stop text' offsets' present') where
+    (a : Appended text (set offsets 0 0) present (noEntries 0) entries stop text' offsets' present') where
   -- where the entries end is known from them
-  all-laid : Appended text (set offsets 0 0) present noEntries entries (allEntries (length text) entries) text' offsets' present'
+  all-laid : FrontFilled text offsets present 0 entries (bytesLaid (length text) entries) text' offsets' present'
   all-laid =
       record {
         counted = omega arith;
@@ -68,8 +69,8 @@ module _ {text : List ℕ} (offsets : List ℕ) {present : List ℕ} {entries : 
 
 -- the same of the sheets' names, by their count
 module _ (rows cols strands : ℕ) (strandSheet scaffoldSheet : List ℕ) {text : List ℕ} (offsets : List ℕ) {present : List ℕ} {stop : Entries} {text' offsets' present' : List ℕ}
-    (a : Appended text (set offsets 0 0) present noEntries (glueNames rows cols strands strandSheet scaffoldSheet) stop text' offsets' present') where
-  pub glues-all : Appended text (set offsets 0 0) present noEntries (glueNames rows cols strands strandSheet scaffoldSheet) (allEntries (length text) (glueNames rows cols strands strandSheet scaffoldSheet)) text' offsets' present'
+    (a : Appended text (set offsets 0 0) present (noEntries 0) (glueNames rows cols strands strandSheet scaffoldSheet) stop text' offsets' present') where
+  pub glues-all : FrontFilled text offsets present 0 (glueNames rows cols strands strandSheet scaffoldSheet) (bytesLaid (length text) (glueNames rows cols strands strandSheet scaffoldSheet)) text' offsets' present'
   glues-all = all-laid offsets a
 
   pub glues-inside : (strands - 1) * 5 + rows * cols < length offsets → stop .entries < length offsets'

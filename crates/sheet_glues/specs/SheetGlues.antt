@@ -11,19 +11,14 @@ use Rattle.name_register_input.specs.Input.{request}
 use Rattle.name_registering.specs.Register.{registerVerdict, registerAnswer, gluesAfter, scaffoldAfter, basesAfter}
 use Rattle.sheet_records.specs.Tables.{columns}
 use Rattle.sheet_names.specs.Appended.{flagOf, ends}
-use Rattle.sheet_names.specs.declared.Entries.{Entries}
 
 -- fields 3 to 7 of each strand's record of 7 (north, east, south, west, bottom), strand 0 having none, then the scaffold's fields row by row
 unfoldable pub glueNames : (rows cols strands : ℕ) (strandSheet scaffoldSheet : List ℕ) → List (List ℕ)
 glueNames rows cols strands strandSheet scaffoldSheet = columns (strands - 1) 7 2 5 strandSheet ++ columns rows cols 0 cols scaffoldSheet
 
--- no entries yet
-abbrev pub noEntries : Entries
-noEntries = record { entries = 0; bytes = 0 }
-
--- all entries, with as many of their bytes as have room
-abbrev pub allEntries : (room : ℕ) → List (List ℕ) → Entries
-allEntries room entries = record { entries = length entries; bytes = min room (length (flatten entries)) }
+-- how many bytes entries take where a text has so much room
+abbrev pub bytesLaid : (room : ℕ) → List (List ℕ) → ℕ
+bytesLaid room entries = min room (length (flatten entries))
 
 -- entries as names: a blank one is no glue
 unfoldable pub laidNames : (room : ℕ) → List (List ℕ) → Names

@@ -3,7 +3,8 @@ ghost use Prim.Native.Nat.{_+_, _-_, _*_, _≤_, _<_};
 ghost use lib.ListN.{length, take, set};
 ghost use Rattle.name_glues.specs.Names.{glueNames as names};
 ghost use Rattle.sheet_names.specs.Appended.{Appended};
-ghost use Rattle.sheet_glues.specs.SheetGlues.{glueNames, noEntries, allEntries, laidNames, Registers};
+ghost use Rattle.sheet_names.specs.FrontFilled.{noEntries, FrontFilled};
+ghost use Rattle.sheet_glues.specs.SheetGlues.{glueNames, bytesLaid, laidNames, Registers};
 use name_registering::register;
 use sheet_names::Entries;
 use sheet_names::put_columns;
@@ -29,8 +30,15 @@ pub fn register_sheets(
     requires { ⌜ 1 ≤ strands ⌝ }
     requires { ⌜ (strands - 1) * 5 + rows * cols < length (now offsets) ⌝ }
     requires { ⌜ (strands - 1) * 5 + rows * cols ≤ length (now present) ⌝ }
-    ensures names { λ _. ⌜ Appended (now (text .entry)) (set (now (offsets .entry)) 0 0) (now (present .entry)) noEntries (glueNames rows cols strands (now («strand_sheet» .entry)) (now («scaffold_sheet» .entry))) (allEntries (length (now (text .entry))) (glueNames rows cols strands (now («strand_sheet» .entry)) (now («scaffold_sheet» .entry)))) (now (text .exit)) (now (offsets .exit)) (now (present .exit)) ⌝ }
-    ensures glues { λ r. ⌜ Registers rows cols strands (laidNames (length (now (text .entry))) (glueNames rows cols strands (now («strand_sheet» .entry)) (now («scaffold_sheet» .entry)))) r (now («strand_glues» .entry)) (now (scaffold .entry)) (now (bases .entry)) (now («strand_glues» .exit)) (now (scaffold .exit)) (now (bases .exit)) ⌝ }
+    ensures names { λ _.
+        let glues = glueNames rows cols strands (now («strand_sheet» .entry)) (now («scaffold_sheet» .entry)) in
+        ⌜ FrontFilled (now (text .entry)) (now (offsets .entry)) (now (present .entry)) 0 glues
+        (bytesLaid (length (now (text .entry))) glues) (now (text .exit)) (now (offsets .exit)) (now (present .exit)) ⌝ }
+    ensures glues { λ r.
+        let glues = glueNames rows cols strands (now («strand_sheet» .entry)) (now («scaffold_sheet» .entry)) in
+        ⌜ Registers rows cols strands (laidNames (length (now (text .entry))) glues)
+        r (now («strand_glues» .entry)) (now (scaffold .entry)) (now (bases .entry))
+        (now («strand_glues» .exit)) (now (scaffold .exit)) (now (bases .exit)) ⌝ }
 {
     let all = put_glues(
         strand_sheet,
@@ -70,7 +78,10 @@ fn put_glues(
     requires { ⌜ 1 ≤ strands ⌝ }
     requires { ⌜ (strands - 1) * 5 + rows * cols < length (now offsets) ⌝ }
     requires { ⌜ (strands - 1) * 5 + rows * cols ≤ length (now present) ⌝ }
-    ensures { λ r. ⌜ Appended (now (text .entry)) (set (now (offsets .entry)) 0 0) (now (present .entry)) noEntries (glueNames rows cols strands (now (own .entry)) (now (grid .entry))) r (now (text .exit)) (now (offsets .exit)) (now (present .exit)) ⌝ }
+    ensures { λ r.
+        ⌜ Appended (now (text .entry)) (set (now (offsets .entry)) 0 0) (now (present .entry)) (noEntries 0)
+        (glueNames rows cols strands (now (own .entry)) (now (grid .entry)))
+        r (now (text .exit)) (now (offsets .exit)) (now (present .exit)) ⌝ }
 {
     offsets[0] = 0;
     let none = Entries {
@@ -96,7 +107,12 @@ fn register_fronts(
     bases: &mut [usize],
 ) -> CountAnswer
     requires { ⌜ all .entries < length (now offsets) ⌝ }
-    ensures { λ r. ⌜ Registers rows cols strands (names (take (all .bytes) (now (text .entry))) (take (all .entries + 1) (now (offsets .entry))) (take (all .entries) (now (present .entry)))) r (now («strand_glues» .entry)) (now (scaffold .entry)) (now (bases .entry)) (now («strand_glues» .exit)) (now (scaffold .exit)) (now (bases .exit)) ⌝ }
+    ensures { λ r.
+        let text' = take (all .bytes) (now (text .entry)) in
+        let offsets' = take (all .entries + 1) (now (offsets .entry)) in
+        ⌜ Registers rows cols strands (names text' offsets' (take (all .entries) (now (present .entry))))
+        r (now («strand_glues» .entry)) (now (scaffold .entry)) (now (bases .entry))
+        (now («strand_glues» .exit)) (now (scaffold .exit)) (now (bases .exit)) ⌝ }
 {
     register(
         rows,

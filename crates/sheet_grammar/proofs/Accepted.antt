@@ -12,9 +12,9 @@ use Rattle.units.specs.Refusals.{passes}
 use Rattle.units.proofs.Verdicts.{no-fault}
 use Rattle.sheet_fields.specs.Fields.{field, content, after}
 use Rattle.sheet_number_lists.specs.NumberLists.{isList, listIn}
-use Rattle.sheet_fields.specs.Runs.{contents, past, goesOn}
+use Rattle.sheet_fields.specs.Runs.{contents, past, goesOn, recordFault}
 use Rattle.sheet_fields.proofs.Runs.{contents-add}
-use Rattle.sheet_cells.specs.Cells.{isCell, cells, rowFault, place, sheetFault, sheetVerdict}
+use Rattle.sheet_cells.specs.Cells.{isCell, cells, place, sheetFault, sheetVerdict}
 use Rattle.sheet_grammar.specs.Grammar.{RecordText, last, comma, LineEnd, lf, crlf, Separator, at-end, at-comma, at-line, SheetText, none, line, open-ended}
 use Rattle.sheet_grammar.proofs.OneField.{Begins, field-read, cell-text, cell-read}
 
@@ -44,13 +44,13 @@ pub record Row (k : ℕ) (t : List ℕ) : Type 0 where
 record Sound (column left : ℕ) (t : List ℕ) : Type 0 where
   is-cell : isCell t ≡ true
   followed : goesOn left t ≡ true
-  others : rowFault (column + 1) left (after t) ≡ 0
+  others : recordFault isCell (column + 1) left (after t) ≡ 0
 
-sound-first : (column left : ℕ) (t : List ℕ) → 1 ≤ column → rowFault column (suc left) t ≡ 0 → Sound column left t
-unfolding rowFault
+sound-first : (column left : ℕ) (t : List ℕ) → 1 ≤ column → recordFault isCell column (suc left) t ≡ 0 → Sound column left t
+unfolding recordFault
 sound-first column left t h e = go (isCell t) refl (goesOn left t) refl e
   where
-    go : (p : Bool) → isCell t ≡ p → (q : Bool) → goesOn left t ≡ q → cond p (cond q (rowFault (column + 1) left (after t)) (column + 1)) column ≡ 0 → Sound column left t
+    go : (p : Bool) → isCell t ≡ p → (q : Bool) → goesOn left t ≡ q → cond p (cond q (recordFault isCell (column + 1) left (after t)) (column + 1)) column ≡ 0 → Sound column left t
     go true c true g e = record { is-cell = c; followed = g; others = e }
     go true c false g e = absurd (omega arith)
     go false c q g e = absurd (omega arith)
@@ -77,7 +77,7 @@ by-comma at-end e = absurd (true≢false (sym e))
 by-comma at-comma e = refl
 by-comma (at-line l) e = absurd (true≢false (sym e))
 
-pub row-text : (column left : ℕ) (t : List ℕ) → 1 ≤ column → rowFault column (suc left) t ≡ 0 → Row (suc left) t
+pub row-text : (column left : ℕ) (t : List ℕ) → 1 ≤ column → recordFault isCell column (suc left) t ≡ 0 → Row (suc left) t
 unfolding contents cells past
 row-text column zero t h e =
     let s = sound-first column zero t h e in
@@ -115,17 +115,17 @@ no-record-left columns at (b ∷ t) h e = absurd (omega (arith, sym (ap (λ (s :
 
 record FirstRow (columns at rows : ℕ) (t : List ℕ) : Type 0 where
   some : 1 ≤ length t
-  no-fault : rowFault 1 columns t ≡ 0
+  no-fault : recordFault isCell 1 columns t ≡ 0
   others : NoFault columns (at + 1) rows (past columns t)
 
 first-row : (columns at rows : ℕ) (t : List ℕ) → 1 ≤ at → NoFault columns at (suc rows) t → FirstRow columns at rows t
 unfolding sheetFault
-first-row columns at rows t h e = go (eqb (length t) 0) refl (eqb (rowFault 1 columns t) 0) refl e
+first-row columns at rows t h e = go (eqb (length t) 0) refl (eqb (recordFault isCell 1 columns t) 0) refl e
   where
-    go : (p : Bool) → eqb (length t) 0 ≡ p → (q : Bool) → eqb (rowFault 1 columns t) 0 ≡ q
-        → cond p (place at 1) (cond q (sheetFault columns (at + 1) rows (past columns t)) (place at (rowFault 1 columns t))) .line ≡ 0 → FirstRow columns at rows t
+    go : (p : Bool) → eqb (length t) 0 ≡ p → (q : Bool) → eqb (recordFault isCell 1 columns t) 0 ≡ q
+        → cond p (place at 1) (cond q (sheetFault columns (at + 1) rows (past columns t)) (place at (recordFault isCell 1 columns t))) .line ≡ 0 → FirstRow columns at rows t
     go true f q g e = absurd (omega arith)
-    go false f true g e = let some = eqb-false (length t) 0 f in record { some = omega arith; no-fault = eqb-true (rowFault 1 columns t) 0 g; others = e }
+    go false f true g e = let some = eqb-false (length t) 0 f in record { some = omega arith; no-fault = eqb-true (recordFault isCell 1 columns t) 0 g; others = e }
     go false f false g e = absurd (omega arith)
 
 -- a sheet text of the contents and lists read
@@ -196,7 +196,7 @@ sound (suc k) at rows t some h e = sheet-from k at rows t h e
 
 -- a text begins with a record of these contents and lists
 pub record Starts (k : ℕ) (t : List ℕ) (cs ls : List (List ℕ)) (tail : List ℕ) : Type 0 where
-  pub no-fault : (column : ℕ) → rowFault column k t ≡ 0
+  pub no-fault : (column : ℕ) → recordFault isCell column k t ≡ 0
   pub has : contents k t ≡ cs
   pub lists : cells k t ≡ ls
   pub leaves : past k t ≡ tail
@@ -208,7 +208,7 @@ some-field (comma {k = k} f r) = omega arith
 -- a cell that is followed as it should be, and the rest of its record
 then-rest : {t c ns tail : List ℕ} {m : Bool} (k : ℕ) {cs ls : List (List ℕ)} {end : List ℕ} → isList c ≡ true → listIn c ≡ ns → Begins t m c tail
     → cond m (ltb 0 k) (eqb k 0) ≡ true → Starts k tail cs ls end → Starts (suc k) t (c ∷ cs) (ns ∷ ls) end
-unfolding rowFault contents cells past isCell goesOn
+unfolding recordFault contents cells past isCell goesOn
 then-rest {t = t} {c = c} {tail = tail} {m = m} k l n b g s =
     record {
       no-fault = λ column. rw (is-cell, followed, b .leaves) (s .no-fault (column + 1));
@@ -224,7 +224,7 @@ then-rest {t = t} {c = c} {tail = tail} {m = m} k l n b g s =
     followed = rw (b .goes-on) g
 
 no-field : (t : List ℕ) → Starts 0 t [] [] t
-unfolding rowFault contents cells past
+unfolding recordFault contents cells past
 no-field t = record { no-fault = λ column. refl; has = refl; lists = refl; leaves = refl }
 
 -- a record of the grammar, ended as a record may be, is read with its contents and lists

@@ -7,7 +7,7 @@ use native.Mathlib.Omega.{arith}
 use lib.Dec.{eqb, ltb}
 use lib.ListN.{length}
 use borrow.Author.Tests.{ne-eqb}
-use Rattle.text_entries.proofs.Same.{both}
+use Rattle.units.proofs.Tests.{both}
 use Rattle.text_digits.specs.Digits.{digit, allDigits}
 use Rattle.sheet_fields.specs.Fields.{isPlain, plainLength, quotedLength, unquoted, isQuoted}
 use Rattle.sheet_grammar.specs.Grammar.{NumbersText, one, another, ListText, nothing, numbers}

@@ -5,7 +5,7 @@ use mathlib.Core.Bool.{Bool, true, false, cond, _&&_, true≢false}
 use native.Mathlib.Omega.{arith}
 use lib.Dec.{ltb, leb}
 use borrow.Author.Tests.{ltb-true, leb-true, lt-ltb, le-leb}
-use Rattle.text_entries.proofs.Same.{both}
+use Rattle.units.proofs.Tests.{both}
 use Rattle.text_digits.specs.Digits.{digit}
 
 -- a byte from one on and below another

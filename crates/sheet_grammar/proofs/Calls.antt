@@ -9,14 +9,15 @@ use lib.Dec.{eqb, leb, ltb}
 use lib.ListN.{length, take, drop}
 use lib.Seq.{take-append-seam}
 use borrow.Author.Tests.{eq-eqb, le-ltb, leb-true, not-false}
-use Rattle.text_entries.proofs.Same.{both}
+use Rattle.units.proofs.Tests.{both}
+use Rattle.units.specs.Limits.{mostSide, fromOneTo}
 use Rattle.units.specs.Answers.{countAnswer}
 use Rattle.units.specs.Refusals.{Verdict, passes, refuses, refuseIf, _▷_, ifPasses}
 use Rattle.units.specs.declared.CountAnswer.the-variants.{Count}
 use Rattle.units.proofs.Verdicts.{first-passes, rest-passes, no-fault}
 use Rattle.sheet_fields.specs.Runs.{contents}
 use Rattle.sheet_cells.specs.Cells.{allTiles, starts, front, sheetVerdict}
-use Rattle.sheet.specs.Read.{isSide, gridVerdict, sheetLists, tileCount, readVerdict, offsetsAfter, tilesAfter}
+use Rattle.sheet.specs.Read.{gridVerdict, sheetLists, tileCount, readVerdict, offsetsAfter, tilesAfter}
 use Rattle.sheet_grammar.specs.Grammar.{SheetText}
 use Rattle.sheet_grammar.proofs.Accepted.{passed-is-sheet, complete}
 
@@ -27,12 +28,12 @@ read-is-sheet rows columns text offsets tiles e =
     let room = refuseIf (ltb (length tiles) (tileCount rows columns text)) 9 (tileCount rows columns text ∷ []) in
     let lent = refuseIf (not (eqb (length offsets) (rows * columns + 1))) 5 [] ▷ room in
     let later = sheetVerdict rows columns text ▷ lent in
-    let sides = not-false (isSide rows && isSide columns) (no-fault (not (isSide rows && isSide columns)) 1 [] (first-passes (gridVerdict rows columns) later e)) in
-    let some = leb-true 1 columns (both (leb 1 columns) (leb columns 32) (both (isSide rows) (isSide columns) sides .1) .0) in
+    let sides = not-false (fromOneTo mostSide rows && fromOneTo mostSide columns) (no-fault (not (fromOneTo mostSide rows && fromOneTo mostSide columns)) 1 [] (first-passes (gridVerdict rows columns) later e)) in
+    let some = leb-true 1 columns (both (leb 1 columns) (leb columns mostSide) (both (fromOneTo mostSide rows) (fromOneTo mostSide columns) sides .1) .0) in
     passed-is-sheet rows columns text some (first-passes (sheetVerdict rows columns text) lent (rest-passes (gridVerdict rows columns) later e))
 
 -- and each sheet of the grid is read where what is lent has room
-pub sheet-is-read : {rows columns : ℕ} {text : List ℕ} {cs ls : List (List ℕ)} → (isSide rows && isSide columns) ≡ true → SheetText columns rows text cs ls
+pub sheet-is-read : {rows columns : ℕ} {text : List ℕ} {cs ls : List (List ℕ)} → (fromOneTo mostSide rows && fromOneTo mostSide columns) ≡ true → SheetText columns rows text cs ls
     → (offsets tiles : List ℕ) → length offsets ≡ rows * columns + 1 → length (allTiles ls) ≤ length tiles → readVerdict rows columns text offsets tiles ≡ passes
 sheet-is-read {rows = rows} {columns = columns} {text = text} sides s offsets tiles shape room =
     let count = ap (λ (l : List (List ℕ)). length (allTiles l)) (complete s .lists) in

@@ -9,9 +9,9 @@ use lib.Dec.{eqb, ltb}
 use lib.ListN.{length, length-append}
 use borrow.Author.Tests.{ltb-false, lt-ltb, eqb-true, eqb-false, ne-eqb}
 use Rattle.sheet_fields.specs.Fields.{field, after}
-use Rattle.sheet_fields.specs.Runs.{past, goesOn}
+use Rattle.sheet_fields.specs.Runs.{past, goesOn, recordFault}
 use Rattle.sheet_number_lists.specs.NumberLists.{isList}
-use Rattle.sheet_cells.specs.Cells.{isCell, rowFault, place, sheetFault}
+use Rattle.sheet_cells.specs.Cells.{isCell, place, sheetFault}
 use Rattle.sheet_cells.specs.declared.Place.{Place}
 use Rattle.sheet_grammar.specs.Grammar.{FieldText, RecordText, last, comma, LineEnd, Separator, at-end, at-comma, at-line, SheetText, none, line, open-ended}
 use Rattle.sheet_grammar.specs.FirstFault.{FieldHere, Fields, no-field, one-field, Lines, no-line, one-line, WrongRecord, bad-field, missing-field, surplus-field, WrongSheet, in-record, missing-record, surplus-record}
@@ -22,14 +22,14 @@ use Rattle.sheet_grammar.proofs.Accepted.{row-text, some-field, some-by
 
 -- a field of the grammar that is followed as it should be leaves the rest of its record
 one-cell : {t c tail : List ℕ} {more : Bool} (column left : ℕ) → isList c ≡ true → Begins t more c tail → cond more (ltb 0 left) (eqb left 0) ≡ true
-    → rowFault column (suc left) t ≡ rowFault (column + 1) left tail
-unfolding rowFault isCell goesOn
+    → recordFault isCell column (suc left) t ≡ recordFault isCell (column + 1) left tail
+unfolding recordFault isCell goesOn
 one-cell column left l b g = rw (b .sound, b .has, l, b .goes-on, g, b .leaves)
 
 -- and one that is not is told as the next
 last-cell : {t c tail : List ℕ} {more : Bool} (column left : ℕ) → isList c ≡ true → Begins t more c tail → cond more (ltb 0 left) (eqb left 0) ≡ false
-    → rowFault column (suc left) t ≡ column + 1
-unfolding rowFault isCell goesOn
+    → recordFault isCell column (suc left) t ≡ column + 1
+unfolding recordFault isCell goesOn
 last-cell column left l b g = rw (b .sound, b .has, l, b .goes-on, g)
 
 -- a cell is a field of the grammar, and the other way round
@@ -54,44 +54,44 @@ no-cell t bad = go (isCell t) refl
 -- ---- what is wrong is told
 
 -- past fields with commas
-past-fields : {k : ℕ} {b : List ℕ} → Fields k b → (column left : ℕ) (t : List ℕ) → rowFault column (suc left + k) (b ++ t) ≡ rowFault (column + k) (suc left) t
+past-fields : {k : ℕ} {b : List ℕ} → Fields k b → (column left : ℕ) (t : List ℕ) → recordFault isCell column (suc left + k) (b ++ t) ≡ recordFault isCell (column + k) (suc left) t
 past-fields no-field column left t =
     let all : suc left + 0 ≡ suc left = omega arith in
     let same : column ≡ column + 0 = omega arith in
-    ap₂ (λ (n at : ℕ). rowFault at n t) all same
+    ap₂ (λ (n at : ℕ). recordFault isCell at n t) all same
 past-fields (one-field {t = f} {u = u} {k = k} x fs) column left t =
     let up : column + 1 + k ≡ column + suc k = omega arith in
     let more : suc left + suc k ≡ suc (suc left + k) = omega arith in
-    ap₂ (rowFault column) more (append-assoc f (44 ∷ u) t)
+    ap₂ (recordFault isCell column) more (append-assoc f (44 ∷ u) t)
     ∙ one-cell column (suc left + k) (cell-read x .0) (field-read x (at-comma {u = u ++ t})) (lt-ltb 0 (suc left + k) (omega arith))
-    ∙ past-fields fs (column + 1) left t ∙ ap (λ (n : ℕ). rowFault n (suc left) t) up
+    ∙ past-fields fs (column + 1) left t ∙ ap (λ (n : ℕ). recordFault isCell n (suc left) t) up
 
 -- behind a record that is not followed as it should be the next field is told
 record-told : {k : ℕ} {r : List ℕ} {cs ls : List (List ℕ)} → RecordText k r cs ls → {more : Bool} {sep tail : List ℕ} → Separator more sep tail → (column left : ℕ)
-    → cond more (ltb 0 left) (eqb left 0) ≡ false → rowFault column (left + k) (r ++ (sep ++ tail)) ≡ column + k
+    → cond more (ltb 0 left) (eqb left 0) ≡ false → recordFault isCell column (left + k) (r ++ (sep ++ tail)) ≡ column + k
 record-told (last {t = f} x) {sep = sep} {tail = tail} s column left g =
     let more : left + 1 ≡ suc left = omega arith in
-    ap (λ (n : ℕ). rowFault column n (f ++ (sep ++ tail))) more ∙ last-cell column left (cell-read x .0) (field-read x s) g
+    ap (λ (n : ℕ). recordFault isCell column n (f ++ (sep ++ tail))) more ∙ last-cell column left (cell-read x .0) (field-read x s) g
 record-told (comma {t = f} {k = k} {u = u} x r) {sep = sep} {tail = tail} s column left g =
     let some = some-field r in
     let up : column + 1 + k ≡ column + suc k = omega arith in
     let more : left + suc k ≡ suc (left + k) = omega arith in
-    ap₂ (rowFault column) more (append-assoc f (44 ∷ u) (sep ++ tail))
+    ap₂ (recordFault isCell column) more (append-assoc f (44 ∷ u) (sep ++ tail))
     ∙ one-cell column (left + k) (cell-read x .0) (field-read x (at-comma {u = u ++ (sep ++ tail)})) (lt-ltb 0 (left + k) (omega arith))
     ∙ record-told r s (column + 1) left g ∙ up
 
-number-told : {columns number : ℕ} {b t : List ℕ} → WrongRecord columns b t number → rowFault 1 columns (b ++ t) ≡ number
-unfolding rowFault
+number-told : {columns number : ℕ} {b t : List ℕ} → WrongRecord columns b t number → recordFault isCell 1 columns (b ++ t) ≡ number
+unfolding recordFault
 number-told {columns = columns} (bad-field {k = k} {before = b} {rest = t} fs h bad) =
     let left = columns - suc k in
     let all : suc left + k ≡ columns = omega arith in
-    ap (λ (n : ℕ). rowFault 1 n (b ++ t)) (sym all) ∙ past-fields fs 1 left t ∙ rw (no-cell t bad) (omega arith)
+    ap (λ (n : ℕ). recordFault isCell 1 n (b ++ t)) (sym all) ∙ past-fields fs 1 left t ∙ rw (no-cell t bad) (omega arith)
 number-told {columns = columns} (missing-field {k = k} {before = b} {sep = sep} {tail = tail} r h s) =
     let left = columns - k in
     let all : left + k ≡ columns = omega arith in
-    ap (λ (n : ℕ). rowFault 1 n (b ++ (sep ++ tail))) (sym all) ∙ record-told r s 1 left (ne-eqb left 0 (λ (z : left ≡ 0). omega arith)) ∙ omega arith
+    ap (λ (n : ℕ). recordFault isCell 1 n (b ++ (sep ++ tail))) (sym all) ∙ record-told r s 1 left (ne-eqb left 0 (λ (z : left ≡ 0). omega arith)) ∙ omega arith
 number-told {columns = columns} (surplus-field {before = b} {tail = tail} r) =
-    ap (λ (n : ℕ). rowFault 1 n (b ++ 44 ∷ tail)) (sym (zero-add columns)) ∙ record-told r (at-comma {u = tail}) 1 0 refl ∙ omega arith
+    ap (λ (n : ℕ). recordFault isCell 1 n (b ++ 44 ∷ tail)) (sym (zero-add columns)) ∙ record-told r (at-comma {u = tail}) 1 0 refl ∙ omega arith
 
 some-number : {columns number : ℕ} {b t : List ℕ} → WrongRecord columns b t number → 1 ≤ number
 some-number (bad-field fs h bad) = omega arith
@@ -173,19 +173,19 @@ record RowWrong (left column : ℕ) (t : List ℕ) : Type 0 where
   n : ℕ
   all : t ≡ before ++ rest
   wrong : WrongRecord left before rest (suc n)
-  told : rowFault column left t ≡ column + n
+  told : recordFault isCell column left t ≡ column + n
 
 module _ (column left : ℕ) (t : List ℕ) where
-  told-here : isCell t ≡ false → rowFault column (suc left) t ≡ column + 0
-  unfolding rowFault
+  told-here : isCell t ≡ false → recordFault isCell column (suc left) t ≡ column + 0
+  unfolding recordFault
   told-here e = rw e (omega arith)
 
-  told-next : isCell t ≡ true → goesOn left t ≡ false → rowFault column (suc left) t ≡ column + 1
-  unfolding rowFault
+  told-next : isCell t ≡ true → goesOn left t ≡ false → recordFault isCell column (suc left) t ≡ column + 1
+  unfolding recordFault
   told-next e g = rw (e, g)
 
-  told-later : isCell t ≡ true → goesOn left t ≡ true → rowFault column (suc left) t ≡ rowFault (column + 1) left (after t)
-  unfolding rowFault
+  told-later : isCell t ≡ true → goesOn left t ≡ true → recordFault isCell column (suc left) t ≡ recordFault isCell (column + 1) left (after t)
+  unfolding recordFault
   told-later e g = rw (e, g)
 
   -- what follows a field, by its separator
@@ -213,12 +213,12 @@ module _ (column left : ℕ) (t : List ℕ) where
           record { before = f; rest = 44 ∷ u; n = 1; all = all; wrong = subst (λ (n : ℕ). WrongRecord n f (44 ∷ u) 2) only (surplus-field (last x)); told = told-next e g }
       by (at-line l) m x all = missing-next x (at-line l) (by-more m g) all
 
-  followed : isCell t ≡ true → goesOn left t ≡ true → 1 ≤ rowFault (column + 1) left (after t) → RowWrong left (column + 1) (after t) → RowWrong (suc left) column t
-  unfolding rowFault
+  followed : isCell t ≡ true → goesOn left t ≡ true → 1 ≤ recordFault isCell (column + 1) left (after t) → RowWrong left (column + 1) (after t) → RowWrong (suc left) column t
+  unfolding recordFault
   followed e g h w = let c = cell-text t e in by (c .ends) refl refl (c .is-field) (c .all)
     where
       none-left : eqb left 0 ≡ true → RowWrong (suc left) column t
-      none-left z = let none : 1 ≤ rowFault (column + 1) 0 (after t) = subst (λ (n : ℕ). 1 ≤ rowFault (column + 1) n (after t)) (eqb-true left 0 z) h in absurd (omega arith)
+      none-left z = let none : 1 ≤ recordFault isCell (column + 1) 0 (after t) = subst (λ (n : ℕ). 1 ≤ recordFault isCell (column + 1) n (after t)) (eqb-true left 0 z) h in absurd (omega arith)
 
       by : {more : Bool} {f x ns sep tail : List ℕ} → Separator more sep tail → more ≡ field t .more → tail ≡ after t → FieldText f x ns → t ≡ f ++ (sep ++ tail) → RowWrong (suc left) column t
       by at-end m p x all = none-left (by-more m g)
@@ -234,13 +234,13 @@ module _ (column left : ℕ) (t : List ℕ) where
           }
       by (at-line l) m p x all = none-left (by-more m g)
 
-row-wrong : (left column : ℕ) (t : List ℕ) → 1 ≤ rowFault column left t → RowWrong left column t
-unfolding rowFault
+row-wrong : (left column : ℕ) (t : List ℕ) → 1 ≤ recordFault isCell column left t → RowWrong left column t
+unfolding recordFault
 row-wrong zero column t h = absurd (omega arith)
 row-wrong (suc left) column t h = go (isCell t) refl (goesOn left t) refl h (row-wrong left (column + 1) (after t))
   where
-    go : (p : Bool) → isCell t ≡ p → (q : Bool) → goesOn left t ≡ q → 1 ≤ cond p (cond q (rowFault (column + 1) left (after t)) (column + 1)) column
-        → (1 ≤ rowFault (column + 1) left (after t) → RowWrong left (column + 1) (after t)) → RowWrong (suc left) column t
+    go : (p : Bool) → isCell t ≡ p → (q : Bool) → goesOn left t ≡ q → 1 ≤ cond p (cond q (recordFault isCell (column + 1) left (after t)) (column + 1)) column
+        → (1 ≤ recordFault isCell (column + 1) left (after t) → RowWrong left (column + 1) (after t)) → RowWrong (suc left) column t
     go true e true g h later = followed column left t e g h (later h)
     go true e false g h later = not-followed column left t e g
     go false e q g h later = bad-here column left t e
@@ -284,10 +284,10 @@ module _ (k rows at b : ℕ) (u : List ℕ) where
   too-many = record { before = []; rest = t; n = 0; number = 1; all = refl; wrong = surplus-record no-line; told = rw some (ap (λ (n : ℕ). place n 1) same-line) }
 
   -- the record itself is wrong
-  in-this : eqb (rowFault 1 columns t) 0 ≡ false → SheetWrong columns (suc rows) at t
+  in-this : eqb (recordFault isCell 1 columns t) 0 ≡ false → SheetWrong columns (suc rows) at t
   unfolding sheetFault
   in-this e =
-      let h = eqb-false (rowFault 1 columns t) 0 e in
+      let h = eqb-false (recordFault isCell 1 columns t) 0 e in
       let w = row-wrong columns 1 t (omega arith) in
       let first : 1 + w .n ≡ suc (w .n) = omega arith in
       record {
@@ -301,14 +301,14 @@ module _ (k rows at b : ℕ) (u : List ℕ) where
       }
 
   -- the record is right, and what follows it is wrong
-  later-told : eqb (rowFault 1 columns t) 0 ≡ true → sheetFault columns at (suc rows) t ≡ sheetFault columns (at + 1) rows (past columns t)
+  later-told : eqb (recordFault isCell 1 columns t) 0 ≡ true → sheetFault columns at (suc rows) t ≡ sheetFault columns (at + 1) rows (past columns t)
   unfolding sheetFault
   later-told e = rw (some, e)
 
-  module _ (e : eqb (rowFault 1 columns t) 0 ≡ true) (h : 1 ≤ sheetFault columns (at + 1) rows (past columns t) .line) where
+  module _ (e : eqb (recordFault isCell 1 columns t) 0 ≡ true) (h : 1 ≤ sheetFault columns (at + 1) rows (past columns t) .line) where
     in-later : SheetWrong columns rows (at + 1) (past columns t) → SheetWrong columns (suc rows) at t
     unfolding sheetFault
-    in-later w = let r = row-text 1 k t (omega arith) (eqb-true (rowFault 1 columns t) 0 e) in by (r .ends) refl refl (r .is-record) (r .all)
+    in-later w = let r = row-text 1 k t (omega arith) (eqb-true (recordFault isCell 1 columns t) 0 e) in by (r .ends) refl refl (r .is-record) (r .all)
       where
         -- no bytes behind it: either that was the last row, or the next is missing
         short : (left : ℕ) → rows ≡ left → {r : List ℕ} {cs ls : List (List ℕ)} → RecordText columns r cs ls → t ≡ r → [] ≡ past columns t → SheetWrong columns (suc rows) at t
@@ -352,9 +352,9 @@ sheet-wrong k zero at (b ∷ u) h = too-many k 0 at b u
 sheet-wrong k (suc rows) at [] h =
     record { before = []; rest = []; n = 0; number = 1; all = refl; wrong = missing-record none (omega arith); told = ap (λ (n : ℕ). place n 1) (let same : at ≡ at + 0 = omega arith in same) }
 sheet-wrong k (suc rows) at (b ∷ u) h =
-    go (eqb (rowFault 1 (suc k) (b ∷ u)) 0) refl
+    go (eqb (recordFault isCell 1 (suc k) (b ∷ u)) 0) refl
     (λ e. sheet-wrong k rows (at + 1) (past (suc k) (b ∷ u)) (subst (λ (p : Place). 1 ≤ p .line) (later-told k rows at b u e) h))
   where
-    go : (q : Bool) → eqb (rowFault 1 (suc k) (b ∷ u)) 0 ≡ q → (eqb (rowFault 1 (suc k) (b ∷ u)) 0 ≡ true → SheetWrong (suc k) rows (at + 1) (past (suc k) (b ∷ u))) → SheetWrong (suc k) (suc rows) at (b ∷ u)
+    go : (q : Bool) → eqb (recordFault isCell 1 (suc k) (b ∷ u)) 0 ≡ q → (eqb (recordFault isCell 1 (suc k) (b ∷ u)) 0 ≡ true → SheetWrong (suc k) rows (at + 1) (past (suc k) (b ∷ u))) → SheetWrong (suc k) (suc rows) at (b ∷ u)
     go true e later = in-later k rows at b u e (subst (λ (p : Place). 1 ≤ p .line) (later-told k rows at b u e) h) (later e)
     go false e later = in-this k rows at b u e

@@ -8,14 +8,15 @@ use native.Mathlib.Omega.{arith}
 use lib.Dec.{eqb, ltb, leb}
 use lib.ListN.{length, getD}
 use borrow.Author.Tests.{ltb-true, leb-true, lt-ltb}
-use Rattle.text_entries.proofs.Same.{both}
+use Rattle.units.proofs.Tests.{both}
+use Rattle.units.specs.Limits.{mostSide, fromOneTo}
 use Rattle.units.specs.Refusals.{refuses, refuseIf, _▷_, refusal, numberOf, valuesOf}
 use Rattle.units.specs.Answers.{countAnswer, countRefusal}
 use Rattle.units.specs.declared.CountAnswer.{CountAnswer}
 use Rattle.units.specs.declared.CountAnswer.the-variants.{Count, Refused}
 use Rattle.sheet_cells.specs.Cells.{place, sheetFault, sheetVerdict}
 use Rattle.sheet_cells.specs.declared.Place.{Place}
-use Rattle.sheet.specs.Read.{isSide, tileCount, readAnswer}
+use Rattle.sheet.specs.Read.{tileCount, readAnswer}
 use Rattle.sheet_grammar.specs.Grammar.{SheetText}
 use Rattle.sheet_grammar.specs.FirstFault.{WrongSheet, in-record, missing-record, surplus-record, FirstFault}
 use Rattle.sheet_grammar.proofs.Accepted.{complete}
@@ -89,7 +90,7 @@ module _ (rows columns : ℕ) (text offsets tiles : List ℕ) (l number : ℕ) w
   -- then they are the first place at which the text is wrong
   pub answer-is-first : Answers19 → FirstFault columns rows text l number
   answer-is-first e =
-      go (isSide rows && isSide columns) refl (ltb 0 (sheetFault columns 1 rows text .line)) refl (not (eqb (length offsets) (rows * columns + 1)))
+      go (fromOneTo mostSide rows && fromOneTo mostSide columns) refl (ltb 0 (sheetFault columns 1 rows text .line)) refl (not (eqb (length offsets) (rows * columns + 1)))
       (ltb (length tiles) (tileCount rows columns text)) e
     where
       another : (n : ℕ) (values : List ℕ) → Refused (refusal n values) ≡ Refused (refusal 19 (l ∷ number ∷ [])) → (n ≡ 19 → ⊥) → FirstFault columns rows text l number
@@ -98,7 +99,7 @@ module _ (rows columns : ℕ) (text offsets tiles : List ℕ) (l number : ℕ) w
       counted-not : {n : ℕ} → Count n ≡ Refused (refusal 19 (l ∷ number ∷ [])) → FirstFault columns rows text l number
       counted-not f = let z : _≡_ {A = ℕ} 0 19 = ap (λ (a : CountAnswer). numberOf (countRefusal a)) f in absurd (omega arith)
 
-      go : (p : Bool) → (isSide rows && isSide columns) ≡ p → (q : Bool) → ltb 0 (sheetFault columns 1 rows text .line) ≡ q → (a b : Bool)
+      go : (p : Bool) → (fromOneTo mostSide rows && fromOneTo mostSide columns) ≡ p → (q : Bool) → ltb 0 (sheetFault columns 1 rows text .line) ≡ q → (a b : Bool)
           → countAnswer
           (refuseIf (not p) 1 []
           ▷ refuseIf q 19 (sheetFault columns 1 rows text .line ∷ sheetFault columns 1 rows text .field ∷ [])
@@ -108,7 +109,7 @@ module _ (rows columns : ℕ) (text offsets tiles : List ℕ) (l number : ℕ) w
           → FirstFault columns rows text l number
       go false s q f a b e = another 1 [] e (λ (z : 1 ≡ 19). omega arith)
       go true s true f a b e =
-          let some = leb-true 1 columns (both (leb 1 columns) (leb columns 32) (both (isSide rows) (isSide columns) s .1) .0) in
+          let some = leb-true 1 columns (both (leb 1 columns) (leb columns mostSide) (both (fromOneTo mostSide rows) (fromOneTo mostSide columns) s .1) .0) in
           let values = ap (λ (c : CountAnswer). valuesOf (countRefusal c)) e in
           subst₂ (FirstFault columns rows text) (ap (λ (v : List ℕ). getD v 0 0) values) (ap (λ (v : List ℕ). getD v 1 0) values)
           (first-found columns rows text some (ltb-true 0 (sheetFault columns 1 rows text .line) f))
@@ -117,5 +118,5 @@ module _ (rows columns : ℕ) (text offsets tiles : List ℕ) (l number : ℕ) w
       go true s false f false false e = counted-not e
 
   -- and over a grid of the right size the call answers so where a place is the first
-  pub first-is-answered : (isSide rows && isSide columns) ≡ true → FirstFault columns rows text l number → Answers19
+  pub first-is-answered : (fromOneTo mostSide rows && fromOneTo mostSide columns) ≡ true → FirstFault columns rows text l number → Answers19
   first-is-answered sides f = rw (sides, refused-at-first f)

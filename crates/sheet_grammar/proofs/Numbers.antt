@@ -9,7 +9,7 @@ use lib.Dec.{eqb, ltb, leb, lit<}
 use lib.ListN.{length, getD, length-append, List·getD-append}
 use lib.Seq.{append-snoc}
 use borrow.Author.Tests.{ltb-true, ltb-false, lt-ltb, le-ltb, leb-true, leb-false, eqb-true, eqb-false, ne-eqb}
-use Rattle.text_entries.proofs.Same.{both}
+use Rattle.units.proofs.Tests.{both}
 use Rattle.text_put.specs.Puts.{decimal, numberText}
 use Rattle.text_digits.specs.Digits.{digit, allDigits, worth}
 use Rattle.sheet_number_lists.specs.NumberLists.{isPlainNumber}

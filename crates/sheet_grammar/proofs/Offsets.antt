@@ -12,7 +12,7 @@ use lib.Seq.{drop-cons, drop-drop, drop-length, take-append-seam, drop-append-se
 use borrow.Author.Tests.{eqb-true, eq-eqb, le-leb}
 use Rattle.text_entries.specs.Entries.{part, offsetsFit, offsetsFrom}
 use Rattle.text_entries.proofs.Bounds.{entry-starts, offset-within, length-part}
-use Rattle.text_entries.proofs.Same.{both}
+use Rattle.units.proofs.Tests.{both}
 use Rattle.bay_lists.specs.Lists.{Constraints, constraints, listOf, offsetsShaped}
 use Rattle.sheet_cells.specs.Cells.{allTiles, starts}
 use Rattle.sheet_grammar.specs.Contents.{listsOf}

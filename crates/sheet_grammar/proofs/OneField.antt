@@ -10,7 +10,7 @@ use lib.Dec.{eqb, leb}
 use lib.ListN.{length, getD, take, drop, take-append-drop, List·getD-eq-default}
 use lib.Seq.{take-append-seam, drop-append-seam, drop-append-add, getD-append-seam, drop-drop, drop-cons, append-snoc}
 use borrow.Author.Tests.{eqb-true, leb-true, leb-false}
-use Rattle.text_entries.proofs.Same.{both}
+use Rattle.units.proofs.Tests.{both}
 use Rattle.sheet_fields.specs.Fields.{isPlain, plainLength, quotedLength, broken, ended, endingOf, fieldOf, bareField, quotedField, isQuoted, field, unquoted, raw, content, after}
 use Rattle.sheet_fields.specs.declared.Ending.{Ending}
 use Rattle.sheet_fields.specs.declared.Field.{Field}

@@ -9,15 +9,16 @@ use lib.Dec.{ltb, leb}
 use lib.ListN.{length, getD, take, drop, length-take, List·getD-eq-default}
 use lib.Seq.{getD-take, getD-drop, take-append-seam}
 use borrow.Author.Tests.{le-ltb, ltb-false, leb-true, leb-false, eq-eqb, not-false}
+use Rattle.units.specs.Limits.{mostSide, fromOneTo}
 use Rattle.units.specs.Refusals.{Verdict, passes, refuseIf, _▷_, ifPasses}
 use Rattle.units.proofs.Verdicts.{first-passes, rest-passes, no-fault}
 use Rattle.text_put.specs.Puts.{numberText}
 use Rattle.bay_lists.specs.Lists.{Constraints, constraints, listOf, offsetsShaped}
 use Rattle.text_entries.specs.Entries.{part}
-use Rattle.text_entries.proofs.Same.{both}
+use Rattle.units.proofs.Tests.{both}
 use Rattle.sheet_cells.specs.Cells.{place, sheetFault, allTiles, starts, front}
 use Rattle.sheet_text.specs.Written.{gap, spaced, separator, rowText, sheetText}
-use Rattle.sheet.specs.Read.{isSide, gridVerdict, sheetLists, tileCount, readVerdict, offsetsAfter, tilesAfter}
+use Rattle.sheet.specs.Read.{gridVerdict, sheetLists, tileCount, readVerdict, offsetsAfter, tilesAfter}
 use Rattle.sheet.specs.Write.{sheetBytes, bytesNeeded, writeVerdict, textAfter}
 use Rattle.sheet_grammar.specs.AsWritten.{WrittenRecord, last-field, field-before, WrittenSheet, no-record, ended-record}
 use Rattle.sheet_grammar.specs.Contents.{listsOf}
@@ -203,7 +204,7 @@ module _ (rows columns : ℕ) (offsets tiles : List ℕ) (some : 1 ≤ columns) 
     tiles-again = ap allTiles lists-written ∙ same-tiles (rows * columns) offsets tiles shape
 
     -- the call that reads what was written passes, and leaves the offsets and the numbers
-    module _ (o t : List ℕ) (sides : (isSide rows && isSide columns) ≡ true) (room : length o ≡ rows * columns + 1) (long : length tiles ≤ length t) where
+    module _ (o t : List ℕ) (sides : (fromOneTo mostSide rows && fromOneTo mostSide columns) ≡ true) (room : length o ≡ rows * columns + 1) (long : length tiles ≤ length t) where
       pub reading-passes : readVerdict rows columns bytes o t ≡ passes
       reading-passes =
           let count : tileCount rows columns bytes ≡ length tiles = ap length tiles-again in
@@ -227,8 +228,8 @@ module _ (rows columns : ℕ) (offsets tiles text : List ℕ) (wrote : writeVerd
   abbrev room-link : Verdict
   room-link = refuseIf (ltb (length text) (bytesNeeded rows columns offsets tiles)) 9 (bytesNeeded rows columns offsets tiles ∷ [])
 
-  on-grid : (isSide rows && isSide columns) ≡ true
-  on-grid = not-false (isSide rows && isSide columns) (no-fault (not (isSide rows && isSide columns)) 1 [] (first-passes (gridVerdict rows columns) (shape-link ▷ room-link) wrote))
+  on-grid : (fromOneTo mostSide rows && fromOneTo mostSide columns) ≡ true
+  on-grid = not-false (fromOneTo mostSide rows && fromOneTo mostSide columns) (no-fault (not (fromOneTo mostSide rows && fromOneTo mostSide columns)) 1 [] (first-passes (gridVerdict rows columns) (shape-link ▷ room-link) wrote))
 
   of-shape : offsetsShaped (rows * columns) (constraints true offsets tiles) ≡ true
   of-shape =
@@ -260,7 +261,7 @@ module _ (rows columns : ℕ) (offsets tiles text : List ℕ) (wrote : writeVerd
 
     pub read-back : (readVerdict rows columns left o t ≡ passes) × ((offsetsAfter rows columns left o t ≡ offsets) × (tilesAfter rows columns left o t ≡ front tiles t))
     read-back =
-        let side = both (leb 1 columns) (leb columns 32) (both (isSide rows) (isSide columns) on-grid .1) .0 in
+        let side = both (leb 1 columns) (leb columns mostSide) (both (fromOneTo mostSide rows) (fromOneTo mostSide columns) on-grid .1) .0 in
         let some = leb-true 1 columns side in
         rw (bytes-left slice) (
           reading-passes rows columns offsets tiles some small of-shape o t on-grid room long,

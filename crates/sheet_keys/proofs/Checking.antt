@@ -13,18 +13,13 @@ use Rattle.sheet_fields.specs.declared.Field.{Field}
 use Rattle.sheet_fields.specs.Runs.{contents, past, bytesIn}
 use Rattle.sheet_fields.proofs.Bounds.{field-at-within, raw-at}
 use Rattle.sheet_fields.proofs.Quotes.{content-blank}
-use Rattle.sheet_fields.proofs.Runs.{bytes-within, past-at}
-use Rattle.sheet_keys.specs.SheetKeys.{isBlank, fits, keyFault, keysFrom, keysFault, numberOf}
-use Rattle.sheet_keys.specs.declared.field_number.FieldNumber.{FieldNumber}
+use Rattle.sheet_fields.proofs.Runs.{place-within, past-at}
+use Rattle.sheet_numbers.specs.Floats.{decimals, readAs}
+use Rattle.sheet_numbers.specs.declared.float_column.Reading.{Reading}
+use Rattle.sheet_keys.specs.SheetKeys.{isBlank, fits, keyFault, keysFrom, keysFault}
 use Rattle.sheet_keys.specs.declared.key_faults.KeyFault.{KeyFault}
 
 -- ---- one record
-
--- a place some fields further on stands in the text
-pub inside-by : (text : List ℕ) (at k to : ℕ) → at ≤ length text → to ≡ at + bytesIn k (drop at text) → to ≤ length text
-inside-by text at k to h e =
-    let most : bytesIn k (drop at text) ≤ length text - at = rw (← length-drop at text) (bytes-within k (drop at text)) in
-    omega arith
 
 -- a field is blank where its places are the same
 pub blank-is : (text : List ℕ) (at : ℕ) → at ≤ length text → (f : Field) → f ≡ fieldAt text at → eqb (f .from) (f .to) ≡ isBlank (content (drop at text))
@@ -51,7 +46,7 @@ blank-is text at h f e = rw (content-blank (drop at text), ← here) (go (eqb (f
     go false k = let other = eqb-false (f .from) (f .to) k in sym (ne-eqb (length between) 0 (λ (z : length between ≡ 0). other (omega (arith, long, ordered))))
 
 -- a number's content, from what it is read as and whether it is blank
-pub fits-is : (numbers : Bool) (n : FieldNumber) (blank : Bool) (t : List ℕ) → n ≡ numberOf t → blank ≡ isBlank t → cond numbers (n .sound) blank ≡ fits numbers t
+pub fits-is : (numbers : Bool) (n : Reading) (blank : Bool) (t : List ℕ) → n ≡ readAs (decimals false) t → blank ≡ isBlank t → cond numbers (n .sound) blank ≡ fits numbers t
 unfolding fits
 fits-is numbers n blank t e f = rw (e, f)
 
@@ -95,6 +90,6 @@ module _ (records : ℕ) (text : List ℕ) (next i : ℕ) (s : InKeys records te
     keys-go-on none after f =
         record {
           within = omega arith;
-          inside = inside-by text next 5 after (s .inside) f;
+          inside = place-within text next 5 after (s .inside) f;
           left = step ∙ rw (eq-eqb fault 0 none, f, past-at 5 text next);
         }

@@ -1,4 +1,3 @@
 pub mod Checking
 mod Examples
-pub mod Numbers
-pub mod Texts
+pub mod Seconds

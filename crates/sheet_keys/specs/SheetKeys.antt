@@ -1,17 +1,12 @@
 -- Keys of a sheet with five fields a record, two names, two numbers and a sequence: which records are keys, and what is read off them. Assumes nothing.
-use Prim.Native.Nat.{ℕ, zero, suc, _+_, _*_}
-use mathlib.Core.Bool.{Bool, true, false, cond}
+use Prim.Native.Nat.{ℕ, zero, suc, _+_}
+use mathlib.Core.Bool.{Bool, false, cond}
 use mathlib.Core.List.{List, [], _∷_}
 use lib.Dec.{eqb}
 use lib.Ieee.{Float}
-use lib.ListN.{length, getD, drop, set}
-use Rattle.units.specs.Decimals.{plus}
-use Rattle.text_digits.specs.declared.kinds.FloatValue.{FloatValue}
+use lib.ListN.{length, getD, drop}
 use Rattle.sheet_fields.specs.Runs.{contents, past}
-use Rattle.sheet_records.specs.Tables.{columns}
-use Rattle.sheet_names.specs.Appended.{Appended}
 use Rattle.sheet_numbers.specs.Floats.{decimals, isRead, valueAs}
-use Rattle.sheet_keys.specs.declared.field_number.FieldNumber.{FieldNumber}
 use Rattle.sheet_keys.specs.declared.key_faults.KeyFault.{KeyFault}
 
 -- ---- which records are keys
@@ -49,20 +44,7 @@ keysFault records t = keysFrom 1 records t
 abbrev pub number : List ℕ → Float
 number t = valueAs (decimals false) t
 
--- contents of some columns were put as the first entries of a text that had so many bytes: `stop` is where the text ends with them
-abbrev pub TextsPut : (records from count : ℕ) → (sheet : List ℕ) → (bytes : ℕ) → (text offsets present : List ℕ) → (stop : ℕ) → (text' offsets' present' : List ℕ) → Type 0
-TextsPut records from count sheet bytes text offsets present stop text' offsets' present' =
-    Appended text (set offsets 0 bytes) present (record { entries = 0; bytes = bytes }) (columns records 5 from count sheet) (record { entries = records * count; bytes = stop }) text' offsets' present'
-
 -- ---- what the functions on the way find
-
-abbrev pub numberOf : List ℕ → FieldNumber
-numberOf t = record { sound = isRead (decimals false) t; value = number t }
-
--- a value with a flag
-abbrev pub valueOf : FloatValue → FieldNumber
-valueOf (FloatValue.Of x) = record { sound = true; value = x }
-valueOf FloatValue.Unreadable = record { sound = false; value = plus 0 1 }
 
 -- the second one of every two, so many times
 unfoldable pub seconds : ℕ → List ℕ → List ℕ

@@ -6,8 +6,8 @@ ghost use lib.ListN.{length, drop};
 ghost use Rattle.sheet_fields.specs.Fields.{content};
 ghost use Rattle.sheet_fields.specs.Runs.{contents};
 ghost use Rattle.sheet_keys.specs.SheetKeys.{isBlank, fits, keyFault, keysFault};
-use crate::field_number::number_at;
 use sheet_fields::field_at;
+use sheet_numbers::decimal_at;
 use sheet_records::place_after;
 
 // The first record that is no key, and the number of the field that shows it; line 0 where there is none. Lines and fields count from 1.
@@ -69,7 +69,7 @@ fn fits_at(sheet: &[u8], at: usize, numbers: bool) -> bool
     requires { ⌜ at ≤ length (now sheet) ⌝ }
     ensures { λ r. ⌜ r ≡ fits numbers (content (drop at (now (sheet .entry)))) ⌝ }
 {
-    let number = number_at(sheet, at);
+    let number = decimal_at(sheet, at);
     let blank = blank_at(sheet, at);
     one_of(numbers, number.sound, blank)
 }

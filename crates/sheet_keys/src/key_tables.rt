@@ -1,15 +1,15 @@
 // The tables that energy keys are taken from.
 ghost use mathlib.Core.Path.{_≡_};
 ghost use mathlib.Core.List.{map};
-ghost use Prim.Native.Nat.{_-_, _*_, _≤_, _<_};
+ghost use Prim.Native.Nat.{_*_, _≤_, _<_};
 ghost use lib.ListN.{length};
 ghost use lib.Seq.{sets};
 ghost use Rattle.sheet_records.specs.Tables.{columns};
 ghost use Rattle.sheet_names.specs.Appended.{flagOf};
-ghost use Rattle.sheet_keys.specs.SheetKeys.{number, seconds, TextsPut};
-use crate::field_number::number_at;
-use sheet_names::Entries;
-use sheet_names::put_columns;
+ghost use Rattle.sheet_names.specs.FrontFilled.{FrontFilled};
+ghost use Rattle.sheet_keys.specs.SheetKeys.{number, seconds};
+use sheet_names::fill_columns;
+use sheet_numbers::decimal_at;
 use sheet_records::place_after;
 
 // How many bytes the names end at, and how many the sequences take.
@@ -40,45 +40,33 @@ pub fn put_keys(
     requires { ⌜ records ≤ length (now kinds) ⌝ }
     requires { ⌜ records * 2 ≤ length (now numbers) ⌝ }
     requires { ⌜ records < length (now «sequence_offsets») ⌝ }
-    ensures names { λ r. ⌜ TextsPut records 0 2 (now (sheet .entry)) bytes (now (text .entry)) (now (offsets .entry)) (now (present .entry)) (r .names) (now (text .exit)) (now (offsets .exit)) (now (present .exit)) ⌝ }
+    ensures names { λ r.
+        ⌜ FrontFilled (now (text .entry)) (now (offsets .entry)) (now (present .entry)) bytes (columns records 5 0 2 (now (sheet .entry)))
+        (r .names) (now (text .exit)) (now (offsets .exit)) (now (present .exit)) ⌝ }
     ensures seconds { λ _. ⌜ now (paired .exit) ≡ sets (now (paired .entry)) 0 (map flagOf (columns records 5 1 1 (now (sheet .entry)))) ⌝ }
     ensures numbers { λ _. ⌜ now (numbers .exit) ≡ sets (now (numbers .entry)) 0 (map number (columns records 5 2 2 (now (sheet .entry)))) ⌝ }
-    ensures sequences { λ r. ⌜ TextsPut records 4 1 (now (sheet .entry)) 0 (now (sequences .entry)) (now («sequence_offsets» .entry)) (now (kinds .entry)) (r .sequences) (now (sequences .exit)) (now («sequence_offsets» .exit)) (now (kinds .exit)) ⌝ }
+    ensures sequences { λ r.
+        ⌜ FrontFilled (now (sequences .entry)) (now («sequence_offsets» .entry)) (now (kinds .entry)) 0 (columns records 5 4 1 (now (sheet .entry)))
+        (r .sequences) (now (sequences .exit)) (now («sequence_offsets» .exit)) (now (kinds .exit)) ⌝ }
 {
-    let names = put_texts(sheet, records, 0, 2, text, bytes, offsets, present);
+    let names = fill_columns(sheet, records, 5, 0, 2, text, bytes, offsets, present);
     put_seconds(present, records, paired);
     put_numbers(sheet, records, numbers);
-    let taken = put_texts(sheet, records, 4, 5, sequences, 0, sequence_offsets, kinds);
+    let taken = fill_columns(
+        sheet,
+        records,
+        5,
+        4,
+        5,
+        sequences,
+        0,
+        sequence_offsets,
+        kinds,
+    );
     KeyTexts {
         names: names,
         sequences: taken,
     }
-}
-
-// Puts the contents of each record's fields from one place up to another as the entries of a text that has so many bytes, and answers where they end.
-fn put_texts(
-    sheet: &[u8],
-    records: usize,
-    from: usize,
-    to: usize,
-    text: &mut [u8],
-    bytes: usize,
-    offsets: &mut [usize],
-    present: &mut [u8],
-) -> usize
-    requires { ⌜ from ≤ to ⌝ }
-    requires { ⌜ bytes ≤ length (now text) ⌝ }
-    requires { ⌜ records * (to - from) < length (now offsets) ⌝ }
-    requires { ⌜ records * (to - from) ≤ length (now present) ⌝ }
-    ensures { λ r. ⌜ TextsPut records from (to - from) (now (sheet .entry)) bytes (now (text .entry)) (now (offsets .entry)) (now (present .entry)) r (now (text .exit)) (now (offsets .exit)) (now (present .exit)) ⌝ }
-{
-    offsets[0] = bytes;
-    let start = Entries {
-        entries: 0,
-        bytes: bytes,
-    };
-    let stop = put_columns(sheet, records, 5, from, to, text, offsets, present, start);
-    stop.bytes
 }
 
 // Puts the second of every two flags.
@@ -104,8 +92,8 @@ fn put_numbers(sheet: &[u8], records: usize, numbers: &mut [f64])
     while i < records {
         let first = place_after(sheet, next, 2);
         let second = place_after(sheet, next, 3);
-        let dg = number_at(sheet, first);
-        let ds = number_at(sheet, second);
+        let dg = decimal_at(sheet, first);
+        let ds = decimal_at(sheet, second);
         numbers[i * 2] = dg.value;
         numbers[i * 2 + 1] = ds.value;
         next = place_after(sheet, next, 5);

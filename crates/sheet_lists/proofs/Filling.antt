@@ -8,7 +8,7 @@ use native.Mathlib.Numerals.{add-one}
 use native.Mathlib.Omega.{arith}
 use lib.ListN.{length, take, drop, set, length-set, drop-of-length-le}
 use lib.Seq.{take-suc-set, set-split, take-length}
-use Rattle.text_digits.proofs.Worth.{and-left, and-right}
+use Rattle.units.proofs.Tests.{and-left, and-right}
 use Rattle.text_put.specs.Puts.{Put, written}
 use Rattle.text_put.proofs.Putting.{Ending, ending-starts, ending-goes-on, ending-ends, put-as, put-long}
 use Rattle.sheet_fields.specs.Fields.{field, raw, content, after, fieldAt}

@@ -5,13 +5,13 @@ use mathlib.Core.Path.{_≡_, refl, sym, ap, _∙_}
 use native.Mathlib.Nat.{add-comm, zero-mul, suc-mul, mul-le-mul-right}
 use native.Mathlib.Numerals.{add-one}
 use native.Mathlib.Omega.{arith}
-use lib.ListN.{length, take, drop, length-append, length-drop}
+use lib.ListN.{length, take, drop, length-append}
 use Rattle.sheet_fields.specs.Fields.{content, after, unquoted, fieldAt}
 use Rattle.sheet_fields.specs.declared.Field.{Field}
 use Rattle.sheet_fields.specs.Runs.{contents, past, bytesIn}
 use Rattle.sheet_fields.proofs.Bounds.{raw-at}
 use Rattle.sheet_fields.proofs.Quotes.{content-unquoted}
-use Rattle.sheet_fields.proofs.Runs.{bytes-within, past-at, past-add, contents-add, bytes-add}
+use Rattle.sheet_fields.proofs.Runs.{place-within, past-at, past-add, contents-add, bytes-add}
 use Rattle.sheet_records.specs.Tables.{columns}
 use Rattle.sheet_names.specs.Appended.{Appended}
 use Rattle.sheet_names.specs.declared.Entries.{Entries}
@@ -68,10 +68,7 @@ module _ (count : ℕ) (text : List ℕ) (at : ℕ) (out offsets present : List 
 
   module _ (stop : Entries) (next i : ℕ) (out' offsets' present' : List ℕ) (s : InFields count text at out offsets present start stop next i out' offsets' present') where
     pub fields-inside : next ≤ length text
-    fields-inside =
-        let most : bytesIn i (drop at text) ≤ length text - at = rw (← length-drop at text) (bytes-within i (drop at text)) in
-        let p = s .place in
-        omega arith
+    fields-inside = place-within text at i next h (s .place)
 
     pub fields-count : stop .entries ≡ start .entries + i
     fields-count = let k = s .done .counted in let l = length-contents i (drop at text) in omega arith
@@ -108,15 +105,9 @@ module _ (records width from count : ℕ) (text out offsets present : List ℕ) 
   columns-start = record { within = omega arith; inside = omega arith; here = rw (zero-mul width); done = append-none out offsets present start b }
 
   module _ (stop : Entries) (next i : ℕ) (out' offsets' present' : List ℕ) (s : InColumns records width from count text out offsets present start stop next i out' offsets' present') where
-    inside-by : (k : ℕ) → next + bytesIn k (drop next text) ≤ length text
-    inside-by k =
-        let most : bytesIn k (drop next text) ≤ length text - next = rw (← length-drop next text) (bytes-within k (drop next text)) in
-        let i = s .inside in
-        omega arith
-
     -- the first field to be taken stands in the text
     pub first-inside : (first : ℕ) → first ≡ next + bytesIn from (drop next text) → first ≤ length text
-    first-inside first e = rw e (inside-by from)
+    first-inside first e = place-within text next from first (s .inside) e
 
     -- so many entries are there before this record and behind it
     pub columns-room : i < records → stop .entries + count ≤ start .entries + records * count
@@ -138,7 +129,7 @@ module _ (records width from count : ℕ) (text out offsets present : List ℕ) 
         let sum : (i + 1) * width ≡ i * width + width = rw (add-one i) (suc-mul i width) in
         record {
           within = omega arith;
-          inside = rw f (inside-by width);
+          inside = place-within text next width after (s .inside) f;
           here = rw (f, sum) (past-at width text next ∙ ap (past width) (s .here) ∙ sym (past-add (i * width) width text));
           done =
               append-as (more-columns i width from count text ∙ ap (λ (n : ℕ). columns n width from count text) (sym (add-one i)))

@@ -2,7 +2,7 @@
 ghost use mathlib.Core.Path.{_≡_};
 ghost use mathlib.Core.Bool.{cond};
 ghost use mathlib.Core.List.{[], _∷_};
-ghost use Prim.Native.Nat.{_+_, _-_, _*_, _≤_, _<_, min};
+ghost use Prim.Native.Nat.{_+_, _-_, _*_, _≤_, _<_};
 ghost use lib.Dec.{ltb};
 ghost use lib.ListN.{length, take, drop};
 ghost use Rattle.text_put.specs.Puts.{Put};
@@ -10,8 +10,10 @@ ghost use Rattle.sheet_fields.specs.Fields.{content, unquoted};
 ghost use Rattle.sheet_fields.specs.Runs.{contents};
 ghost use Rattle.sheet_records.specs.Tables.{columns};
 ghost use Rattle.sheet_names.specs.Appended.{Appended, pairStep};
+ghost use Rattle.sheet_names.specs.FrontFilled.{FrontFilled};
 use sheet_fields::field_at;
 use sheet_records::place_after;
+use text_fronts::least;
 use text_put::put_text;
 
 // How many entries there are, and how many bytes they take.
@@ -36,7 +38,10 @@ pub fn put_columns(
     requires { ⌜ start .bytes ≤ length (now out) ⌝ }
     requires { ⌜ start .entries + records * (to - from) < length (now offsets) ⌝ }
     requires { ⌜ start .entries + records * (to - from) ≤ length (now present) ⌝ }
-    ensures { λ r. ⌜ Appended (now (out .entry)) (now (offsets .entry)) (now (present .entry)) start (columns records width from (to - from) (now (text .entry))) r (now (out .exit)) (now (offsets .exit)) (now (present .exit)) ⌝ }
+    ensures { λ r.
+        ⌜ Appended (now (out .entry)) (now (offsets .entry)) (now (present .entry)) start
+        (columns records width from (to - from) (now (text .entry)))
+        r (now (out .exit)) (now (offsets .exit)) (now (present .exit)) ⌝ }
 {
     let mut stop = start;
     let mut next = 0;
@@ -48,6 +53,36 @@ pub fn put_columns(
         i += 1;
     }
     stop
+}
+
+// Puts the fields of each record from one place up to another, counted from 0, as the first entries of a text that has so many bytes,
+// and answers where they end.
+pub fn fill_columns(
+    text: &[u8],
+    records: usize,
+    width: usize,
+    from: usize,
+    to: usize,
+    out: &mut [u8],
+    bytes: usize,
+    offsets: &mut [usize],
+    present: &mut [u8],
+) -> usize
+    requires { ⌜ from ≤ to ⌝ }
+    requires { ⌜ bytes ≤ length (now out) ⌝ }
+    requires { ⌜ records * (to - from) < length (now offsets) ⌝ }
+    requires { ⌜ records * (to - from) ≤ length (now present) ⌝ }
+    ensures { λ r.
+        ⌜ FrontFilled (now (out .entry)) (now (offsets .entry)) (now (present .entry)) bytes
+        (columns records width from (to - from) (now (text .entry)))
+        r (now (out .exit)) (now (offsets .exit)) (now (present .exit)) ⌝ }
+{
+    offsets[0] = bytes;
+    let start = Entries {
+        entries: 0,
+        bytes: bytes,
+    };
+    put_columns(text, records, width, from, to, out, offsets, present, start).bytes
 }
 
 // Appends so many fields from a place on.
@@ -64,7 +99,10 @@ fn put_fields(
     requires { ⌜ start .bytes ≤ length (now out) ⌝ }
     requires { ⌜ start .entries + count < length (now offsets) ⌝ }
     requires { ⌜ start .entries + count ≤ length (now present) ⌝ }
-    ensures { λ r. ⌜ Appended (now (out .entry)) (now (offsets .entry)) (now (present .entry)) start (contents count (drop at (now (text .entry)))) r (now (out .exit)) (now (offsets .exit)) (now (present .exit)) ⌝ }
+    ensures { λ r.
+        ⌜ Appended (now (out .entry)) (now (offsets .entry)) (now (present .entry)) start
+        (contents count (drop at (now (text .entry))))
+        r (now (out .exit)) (now (offsets .exit)) (now (present .exit)) ⌝ }
 {
     let mut stop = start;
     let mut next = at;
@@ -91,7 +129,10 @@ fn put_entry(
     requires { ⌜ (from ≤ to) × (to ≤ length (now text)) ⌝ }
     requires { ⌜ start .entries + 1 < length (now offsets) ⌝ }
     requires { ⌜ start .entries < length (now present) ⌝ }
-    ensures { λ r. ⌜ Appended (now (out .entry)) (now (offsets .entry)) (now (present .entry)) start (unquoted (take (to - from) (drop from (now (text .entry)))) ∷ []) r (now (out .exit)) (now (offsets .exit)) (now (present .exit)) ⌝ }
+    ensures { λ r.
+        ⌜ Appended (now (out .entry)) (now (offsets .entry)) (now (present .entry)) start
+        (unquoted (take (to - from) (drop from (now (text .entry)))) ∷ [])
+        r (now (out .exit)) (now (offsets .exit)) (now (present .exit)) ⌝ }
 {
     let bytes = put_between(text, from, to, out, start.bytes);
     let entry = start.entries;
@@ -164,10 +205,4 @@ fn pair_step(raw: &[u8], i: usize) -> usize
         return 1;
     }
     2
-}
-
-fn least(a: usize, b: usize) -> usize
-    ensures { λ r. ⌜ r ≡ min a b ⌝ }
-{
-    if a < b { a } else { b }
 }

@@ -3,28 +3,30 @@ use Prim.Native.Nat.{ℕ, suc, _+_, _-_, _≤_, _<_, zero-le, suc-le-suc}
 use mathlib.Core.Bool.{Bool, true, false, cond}
 use mathlib.Core.List.{List, [], _∷_}
 use mathlib.Core.Path.{_≡_, refl, sym, ap, _∙_}
-use native.Mathlib.Numerals.{add-one}
 use native.Mathlib.Omega.{arith}
-use borrow.Author.Tests.{eq-eqb, ne-eqb, le-leb, lt-leb, leb-true, leb-false}
+use borrow.Author.Tests.{le-leb, lt-leb, leb-true, leb-false}
 use lib.Dec.{eqb, leb}
-use lib.ListN.{length, getD, take, drop, drop-of-length-le, length-drop}
-use lib.Seq.{drop-cons, drop-drop}
+use lib.ListN.{length, take, drop, length-drop}
+use lib.Seq.{drop-drop, take-length}
+use Rattle.bytes.specs.Bytes.{slice, indexAfter, indexOf}
 use Rattle.sheet_number_lists.specs.NumberLists.{joined, words}
 use Rattle.sheet_number_lists.specs.Counts.{wordLength}
 
 -- ---- the search for a space
 
-pub end-past : (t : List ℕ) (i : ℕ) → length t ≤ i → i ≡ i + wordLength (drop i t)
-unfolding wordLength
-end-past t i h = rw (drop-of-length-le t h) (omega arith)
+space-at : (t : List ℕ) → indexOf 32 t ≡ wordLength t
+unfolding indexOf indexAfter wordLength
+space-at [] = refl
+space-at (b ∷ t) = go (eqb b 32) (space-at t)
+  where
+    go : (q : Bool) → indexOf 32 t ≡ wordLength t → indexAfter q (indexOf 32 t) ≡ cond q 0 (suc (wordLength t))
+    go true h = refl
+    go false h = ap suc h
 
-pub end-here : (t : List ℕ) (i : ℕ) → i < length t → getD t i 0 ≡ 32 → i ≡ i + wordLength (drop i t)
-unfolding wordLength
-end-here t i h e = rw (drop-cons t i 0 h, eq-eqb (getD t i 0) 32 e) (omega arith)
-
-pub end-next : (t : List ℕ) (i : ℕ) → i < length t → (getD t i 0 ≡ 32 → ⊥) → i + 1 + wordLength (drop (i + 1) t) ≡ i + wordLength (drop i t)
-unfolding wordLength
-end-next t i h e = rw (drop-cons t i 0 h, ne-eqb (getD t i 0) 32 e, add-one) (omega arith)
+-- the space, or the end, where a search from a place on finds it
+pub space-found : (t : List ℕ) (at : ℕ) → at + indexOf 32 (slice at (length t) t) ≡ at + wordLength (drop at t)
+unfolding slice
+space-found t at = rw (take-length t, space-at (drop at t))
 
 word-le : (t : List ℕ) → wordLength t ≤ length t
 unfolding wordLength

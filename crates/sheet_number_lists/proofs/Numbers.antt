@@ -9,7 +9,8 @@ use lib.Dec.{eqb, ltb}
 use lib.ListN.{length, getD}
 use Rattle.text_digits.specs.Digits.{digit, allDigits, worth, wholeOf}
 use Rattle.text_digits.specs.declared.kinds.Number.{Number}
-use Rattle.text_digits.proofs.Worth.{and-false, and-left, read-of, read-none}
+use Rattle.units.proofs.Tests.{and-false, and-left}
+use Rattle.text_digits.proofs.Worth.{read-of, read-none}
 use Rattle.sheet_number_lists.specs.NumberLists.{isPlainNumber, valueOf}
 use Rattle.sheet_number_lists.specs.Counts.{plainNumber, smallNumber}
 use Rattle.sheet_number_lists.specs.declared.plain.PlainNumber.{PlainNumber}

@@ -1,13 +1,13 @@
 // The words of a content one after the other: counted, and put into a lent slice.
 ghost use mathlib.Core.Path.{_≡_};
 ghost use mathlib.Core.List.{[], _∷_};
-ghost use Prim.Native.Nat.{min};
 ghost use Rattle.text_put.specs.Puts.{Put};
 ghost use Rattle.sheet_number_lists.specs.NumberLists.{listIn};
 ghost use Rattle.sheet_number_lists.specs.Counts.{listCount};
 use crate::ListCount;
 use crate::plain::number_in;
 use crate::plain::word_end;
+use text_fronts::least;
 
 // Whether a content is a list, and of how many numbers.
 pub fn count_numbers(content: &[u8]) -> ListCount
@@ -63,10 +63,4 @@ fn put_tile(tiles: &mut [u32], at: usize, tile: u32) -> usize
     }
     tiles[at] = tile;
     at + 1
-}
-
-fn least(a: usize, b: usize) -> usize
-    ensures { λ r. ⌜ r ≡ min a b ⌝ }
-{
-    if a < b { a } else { b }
 }

@@ -14,16 +14,10 @@ pub struct PlainNumber {
 
 // The place of the first space from `at` on, or the content's end.
 pub(crate) fn word_end(content: &[u8], at: usize) -> usize
+    requires { ⌜ at ≤ length (now content) ⌝ }
     ensures { λ r. ⌜ r ≡ at + wordLength (drop at (now (content .entry))) ⌝ }
 {
-    let mut end = at;
-    while end < content.len() {
-        if content[end] == b' ' {
-            return end;
-        }
-        end += 1;
-    }
-    end
+    bytes::scan::find(content, at, content.len(), b' ')
 }
 
 // The number that the bytes from one place to another are.

@@ -1,3 +1,4 @@
 mod Examples
+pub mod Pairs
 pub mod QuotedNumbers
 pub mod Walk

@@ -10,7 +10,7 @@ use lib.ListN.{length, getD, take, drop}
 use Rattle.units.specs.Decimals.{plus}
 use Rattle.text_digits.specs.Digits.{digit, allDigits, worth}
 use Rattle.text_digits.specs.declared.kinds.FloatValue.{FloatValue}
-use Rattle.text_digits.proofs.Worth.{and-left, and-right}
+use Rattle.units.proofs.Tests.{and-left, and-right}
 use Rattle.text_decimals.specs.Decimals.{wholeLength, places, wholePart, isFormed, areFew, isUnsigned, signedOf, decimalOf, isMinusInfinity, logarithmOf}
 use Rattle.sheet_number_lists.specs.NumberLists.{isPlainNumber, valueOf}
 use Rattle.sheet_number_lists.specs.Counts.{plainNumber}
@@ -22,7 +22,7 @@ use Rattle.sheet_fields.proofs.Quotes.{hasQuote, read-content}
 use Rattle.sheet_cells.proofs.Quotes.{no-quote-digit}
 use Rattle.sheet_numbers.specs.Counts.{isCount, fromZero, countOf, lessOne}
 use Rattle.sheet_numbers.specs.Floats.{readingOf, readAs}
-use Rattle.sheet_numbers.specs.declared.count_column.Count.{Count}
+use Rattle.sheet_numbers.specs.declared.count_field.Count.{Count}
 use Rattle.sheet_numbers.specs.declared.float_column.Kind.{Kind}
 use Rattle.sheet_numbers.specs.declared.float_column.Reading.{Reading}
 

@@ -8,11 +8,11 @@ use native.Mathlib.Numerals.{add-one}
 use native.Mathlib.Omega.{arith}
 use borrow.Author.Tests.{ne-eqb, eqb-true}
 use lib.Dec.{eqb}
-use lib.ListN.{length, drop, set, length-set, length-drop}
+use lib.ListN.{length, drop, set, length-set}
 use lib.Seq.{sets}
 use Rattle.sheet_fields.specs.Fields.{content}
 use Rattle.sheet_fields.specs.Runs.{contents, bytesIn}
-use Rattle.sheet_fields.proofs.Runs.{bytes-within, past-at}
+use Rattle.sheet_fields.proofs.Runs.{place-within, past-at}
 use Rattle.sheet_records.specs.Tables.{columns}
 use Rattle.sheet_numbers.specs.Faults.{firstFault}
 
@@ -46,15 +46,9 @@ module _ {A : Type 0} (sound : List ℕ → Bool) (value : List ℕ → A) (reco
     column-starts = record { within = omega arith; inside = omega arith; long = refl; found = rw (sub-zero records) refl; put = rw (sub-zero records) refl }
 
     module _ (out : List A) (fault next i : ℕ) (s : InColumn old out fault next i) where
-      inside-by : (k : ℕ) → next + bytesIn k (drop next text) ≤ length text
-      inside-by k =
-          let most : bytesIn k (drop next text) ≤ length text - next = rw (← length-drop next text) (bytes-within k (drop next text)) in
-          let i = s .inside in
-          omega arith
-
       -- the column's field stands in the text
       pub field-inside : (first : ℕ) → first ≡ next + bytesIn column (drop next text) → first ≤ length text
-      field-inside first e = rw e (inside-by column)
+      field-inside first e = place-within text next column first (s .inside) e
 
       module _ (k : records ≤ i) where
         none : records - i ≡ 0
@@ -86,7 +80,7 @@ module _ {A : Type 0} (sound : List ℕ → Bool) (value : List ℕ → A) (reco
         column-goes-on v p b q now g =
             record {
               within = omega arith;
-              inside = rw f (inside-by width);
+              inside = place-within text next width after (s .inside) f;
               long = length-set out i v ∙ s .long;
               found = first-of fault i (sound here) (map sound (fields (records - (i + 1)) after)) now (rw q at g) ∙ rw split at (s .found);
               put = rw p (ap (λ (n : ℕ). sets (set out i (value here)) n (map value (fields (records - (i + 1)) after))) (add-one i) ∙ rw split at (s .put));

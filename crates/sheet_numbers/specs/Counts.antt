@@ -5,7 +5,7 @@ use mathlib.Core.List.{List}
 use lib.Dec.{ltb}
 use Rattle.sheet_number_lists.specs.NumberLists.{isPlainNumber, valueOf}
 use Rattle.sheet_number_lists.specs.declared.plain.PlainNumber.{PlainNumber}
-use Rattle.sheet_numbers.specs.declared.count_column.Count.{Count}
+use Rattle.sheet_numbers.specs.declared.count_field.Count.{Count}
 
 -- a plain number that is not 0
 unfoldable pub isCount : List ℕ → Bool

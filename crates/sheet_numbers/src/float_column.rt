@@ -1,6 +1,6 @@
 // Columns of decimals and of logarithms.
 ghost use mathlib.Core.Path.{_≡_};
-ghost use mathlib.Core.Bool.{_&&_};
+ghost use mathlib.Core.Bool.{false, _&&_};
 ghost use mathlib.Core.List.{map};
 ghost use Prim.Native.Nat.{_-_, _≤_};
 ghost use lib.Dec.{eqb};
@@ -22,9 +22,9 @@ pub(crate) struct Kind {
 }
 
 // Whether a field could be read, and its value, 0.0 where it could not.
-pub(crate) struct Reading {
-    pub(crate) sound: bool,
-    pub(crate) value: f64,
+pub struct Reading {
+    pub sound: bool,
+    pub value: f64,
 }
 
 // Reads a column of decimals; where blanks may stand, 0.0 is put for one.
@@ -93,6 +93,18 @@ fn put_floats(
     fault
 }
 
+// Reads the field at a place as a decimal, no blank.
+pub fn decimal_at(text: &[u8], at: usize) -> Reading
+    requires { ⌜ at ≤ length (now text) ⌝ }
+    ensures { λ r. ⌜ r ≡ readAs (decimals false) (content (drop at (now (text .entry)))) ⌝ }
+{
+    let kind = Kind {
+        logarithms: false,
+        blanks: false,
+    };
+    float_at(text, at, kind)
+}
+
 // Reads the field at a place: a quote is no part of a number, so its bytes are read as they stand.
 fn float_at(text: &[u8], at: usize, kind: Kind) -> Reading
     requires { ⌜ at ≤ length (now text) ⌝ }
@@ -130,10 +142,7 @@ fn read_as(kind: Kind, text: &[u8]) -> Reading
 fn is_blank(blanks: bool, bytes: usize) -> bool
     ensures { λ r. ⌜ r ≡ blanks && eqb bytes 0 ⌝ }
 {
-    if blanks {
-        return bytes == 0;
-    }
-    false
+    blanks & (bytes == 0)
 }
 
 // A value with a flag.

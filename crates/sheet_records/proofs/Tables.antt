@@ -8,9 +8,9 @@ use native.Mathlib.Omega.{arith}
 use borrow.Author.Tests.{eq-eqb, ne-eqb}
 use lib.Dec.{eqb}
 use lib.ListN.{length, drop, length-drop}
-use Rattle.sheet_fields.specs.Runs.{past, bytesIn}
+use Rattle.sheet_fields.specs.Runs.{past, bytesIn, isSound, recordFault}
 use Rattle.sheet_fields.proofs.Runs.{past-at}
-use Rattle.sheet_records.specs.Tables.{recordFault, sound, faulty, tableFrom, tableCheck, recordAt}
+use Rattle.sheet_records.specs.Tables.{sound, faulty, tableFrom, tableCheck, recordAt}
 use Rattle.sheet_records.specs.declared.RecordCheck.{RecordCheck}
 
 -- the records before `next` are the table's first ones, without a fault
@@ -44,30 +44,30 @@ module _ (width most : ℕ) (text : List ℕ) (next records : ℕ) (s : InTable 
 
     module _ (room : records + 1 ≤ most) (r : RecordCheck) (e : r ≡ recordAt width text next) where
       step : tableCheck width most text
-          ≡ cond (eqb (recordFault 1 width here) 0) (tableFrom width (records + 1) (most - (records + 1)) (past width here)) (faulty (records + 1) (recordFault 1 width here))
+          ≡ cond (eqb (recordFault isSound 1 width here) 0) (tableFrom width (records + 1) (most - (records + 1)) (past width here)) (faulty (records + 1) (recordFault isSound 1 width here))
       unfolding tableFrom
       step = let one-more : most - records ≡ suc (most - (records + 1)) = omega arith in s .left ∙ rw (one-more, bytes)
 
       pub table-stops : (r .fault ≡ 0 → ⊥) → faulty (records + 1) (r .fault) ≡ tableCheck width most text
-      table-stops bad = go (eqb (recordFault 1 width here) 0) refl
+      table-stops bad = go (eqb (recordFault isSound 1 width here) 0) refl
         where
-          go : (q : Bool) → eqb (recordFault 1 width here) 0 ≡ q → faulty (records + 1) (r .fault) ≡ tableCheck width most text
+          go : (q : Bool) → eqb (recordFault isSound 1 width here) 0 ≡ q → faulty (records + 1) (r .fault) ≡ tableCheck width most text
           go true k = absurd (bad (ap (λ (d : RecordCheck). d .fault) e ∙ rw k))
           go false k =
-              let same : r .fault ≡ recordFault 1 width here = ap (λ (d : RecordCheck). d .fault) e ∙ rw k in
+              let same : r .fault ≡ recordFault isSound 1 width here = ap (λ (d : RecordCheck). d .fault) e ∙ rw k in
               rw same (sym (step ∙ rw k))
 
       pub table-goes-on : r .fault ≡ 0 → InTable width most text (r .next) (records + 1)
-      table-goes-on none = go (eqb (recordFault 1 width here) 0) refl
+      table-goes-on none = go (eqb (recordFault isSound 1 width here) 0) refl
         where
-          go : (q : Bool) → eqb (recordFault 1 width here) 0 ≡ q → InTable width most text (r .next) (records + 1)
+          go : (q : Bool) → eqb (recordFault isSound 1 width here) 0 ≡ q → InTable width most text (r .next) (records + 1)
           go true k =
               let far : r .next ≡ next + bytesIn width here = ap (λ (d : RecordCheck). d .next) e ∙ rw k in
               let rest : drop (r .next) text ≡ past width here = rw far (past-at width text next) in
               record { within = room; left = step ∙ rw (k, rest) }
           go false k =
-              let same : r .fault ≡ recordFault 1 width here = ap (λ (d : RecordCheck). d .fault) e ∙ rw k in
-              let z : _≡_ {A = Bool} true false = sym (eq-eqb (recordFault 1 width here) 0 (sym same ∙ none)) ∙ k in
+              let same : r .fault ≡ recordFault isSound 1 width here = ap (λ (d : RecordCheck). d .fault) e ∙ rw k in
+              let z : _≡_ {A = Bool} true false = sym (eq-eqb (recordFault isSound 1 width here) 0 (sym same ∙ none)) ∙ k in
               let y : _≡_ {A = ℕ} 0 1 = cc in
               absurd (omega arith)
 
@@ -80,10 +80,10 @@ found-few width records zero t = go (eqb (length t) 0)
     go : (q : Bool) → cond q (sound records) (faulty (records + 1) 1) .records ≤ records + 0
     go true = omega arith
     go false = omega arith
-found-few width records (suc left) t = go (eqb (length t) 0) (eqb (recordFault 1 width t) 0) (found-few width (records + 1) left (past width t))
+found-few width records (suc left) t = go (eqb (length t) 0) (eqb (recordFault isSound 1 width t) 0) (found-few width (records + 1) left (past width t))
   where
     go : (p q : Bool) → tableFrom width (records + 1) left (past width t) .records ≤ records + 1 + left
-        → cond p (sound records) (cond q (tableFrom width (records + 1) left (past width t)) (faulty (records + 1) (recordFault 1 width t))) .records ≤ records + suc left
+        → cond p (sound records) (cond q (tableFrom width (records + 1) left (past width t)) (faulty (records + 1) (recordFault isSound 1 width t))) .records ≤ records + suc left
     go true q h = omega arith
     go false true h = omega arith
     go false false h = omega arith

@@ -7,6 +7,7 @@ use native.Mathlib.Omega.{arith}
 use borrow.Author.Tests.{eq-eqb, ne-eqb}
 use lib.Dec.{eqb}
 use lib.ListN.{length, drop}
+use Rattle.units.specs.Limits.{mostSide}
 use Rattle.sheet_fields.specs.Fields.{field, after, fieldAt}
 use Rattle.sheet_fields.specs.declared.Field.{Field}
 use Rattle.sheet_fields.proofs.Bounds.{after-at}
@@ -14,8 +15,8 @@ use Rattle.sheet_records.specs.Tables.{widthUpTo, firstWidth}
 
 -- so many fields stand before `next`, and each was followed by another one
 pub record Counting (text : List ℕ) (next width : ℕ) : Type 0 where
-  pub few : width ≤ 33
-  pub sum : firstWidth text ≡ width + widthUpTo (33 - width) (drop next text)
+  pub few : width ≤ mostSide + 1
+  pub sum : firstWidth text ≡ width + widthUpTo (mostSide + 1 - width) (drop next text)
 
 pub no-record : (text : List ℕ) → length text ≡ 0 → 0 ≡ firstWidth text
 unfolding firstWidth
@@ -26,17 +27,17 @@ unfolding firstWidth
 counting-starts text some = record { few = omega arith; sum = rw (ne-eqb (length text) 0 some) (omega arith) }
 
 module _ (text : List ℕ) (next width : ℕ) (s : Counting text next width) where
-  pub counting-ends : 33 ≤ width → width ≡ firstWidth text
+  pub counting-ends : mostSide < width → width ≡ firstWidth text
   unfolding widthUpTo
-  counting-ends k = let none : 33 - width ≡ 0 = omega arith in sym (s .sum ∙ rw none (omega arith))
+  counting-ends k = let none : mostSide + 1 - width ≡ 0 = omega arith in sym (s .sum ∙ rw none (omega arith))
 
-  module _ (more : width < 33) (f : Field) (e : f ≡ fieldAt text next) where
+  module _ (more : width ≤ mostSide) (f : Field) (e : f ≡ fieldAt text next) where
     abbrev here : List ℕ
     here = drop next text
 
-    step : firstWidth text ≡ width + cond (f .more) (suc (widthUpTo (33 - (width + 1)) (after here))) 1
+    step : firstWidth text ≡ width + cond (f .more) (suc (widthUpTo (mostSide + 1 - (width + 1)) (after here))) 1
     unfolding widthUpTo
-    step = let one-more : 33 - width ≡ suc (33 - (width + 1)) = omega arith in s .sum ∙ rw (one-more, ap (λ (g : Field). g .more) e)
+    step = let one-more : mostSide + 1 - width ≡ suc (mostSide + 1 - (width + 1)) = omega arith in s .sum ∙ rw (one-more, ap (λ (g : Field). g .more) e)
 
     pub counting-stops : f .more ≡ false → width + 1 ≡ firstWidth text
     counting-stops k = sym (step ∙ rw k refl)
@@ -46,7 +47,7 @@ module _ (text : List ℕ) (next width : ℕ) (s : Counting text next width) whe
         let rest : drop (f .next) text ≡ after here = rw (ap (λ (g : Field). g .next) e) (sym (after-at text next)) in
         record { few = omega arith; sum = step ∙ rw (k, rest) (omega arith) }
 
--- it is counted no further than 33
+-- it is counted no further
 up-to : (left : ℕ) (t : List ℕ) → widthUpTo left t ≤ left
 unfolding widthUpTo
 up-to zero t = omega arith
@@ -56,10 +57,10 @@ up-to (suc left) t = go (field t .more) (up-to left (after t))
     go true h = omega arith
     go false h = omega arith
 
-pub first-width-few : (t : List ℕ) → firstWidth t ≤ 33
+pub first-width-few : (t : List ℕ) → firstWidth t ≤ mostSide + 1
 unfolding firstWidth
 first-width-few t = go (eqb (length t) 0)
   where
-    go : (none : Bool) → cond none 0 (widthUpTo 33 t) ≤ 33
+    go : (none : Bool) → cond none 0 (widthUpTo (mostSide + 1) t) ≤ mostSide + 1
     go true = omega arith
-    go false = up-to 33 t
+    go false = up-to (mostSide + 1) t

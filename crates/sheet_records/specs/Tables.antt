@@ -2,18 +2,13 @@
 use Prim.Native.Nat.{ℕ, zero, suc, _+_}
 use mathlib.Core.Bool.{cond}
 use mathlib.Core.List.{List, [], _++_}
-use lib.Dec.{eqb, ltb}
+use lib.Dec.{eqb}
 use lib.ListN.{length, drop}
+use Rattle.units.specs.Limits.{mostSide}
 use Rattle.sheet_fields.specs.Fields.{field, after}
-use Rattle.sheet_fields.specs.declared.Field.{Field}
-use Rattle.sheet_fields.specs.Runs.{contents, past, bytesIn, goesOn}
+use Rattle.sheet_fields.specs.Runs.{contents, past, bytesIn, isSound, recordFault}
 use Rattle.sheet_records.specs.declared.RecordCheck.{RecordCheck}
 use Rattle.sheet_records.specs.declared.TableCheck.{TableCheck}
-
--- of a record, the number of the first field that is bad, missing or surplus; 0 where none is
-unfoldable pub recordFault : (number left : ℕ) → List ℕ → ℕ
-recordFault number zero t = 0
-recordFault number (suc left) t = cond (field t .sound) (cond (goesOn left t) (recordFault (number + 1) left (after t)) (number + 1)) number
 
 -- a table of so many records, and one with a fault
 abbrev pub sound : (records : ℕ) → TableCheck
@@ -29,7 +24,7 @@ tableFrom width records zero t = cond (eqb (length t) 0) (sound records) (faulty
 tableFrom width records (suc left) t =
     cond (eqb (length t) 0)
     (sound records)
-    (cond (eqb (recordFault 1 width t) 0) (tableFrom width (records + 1) left (past width t)) (faulty (records + 1) (recordFault 1 width t)))
+    (cond (eqb (recordFault isSound 1 width t) 0) (tableFrom width (records + 1) left (past width t)) (faulty (records + 1) (recordFault isSound 1 width t)))
 
 -- records of so many fields each, no more than `most`
 abbrev pub tableCheck : (width most : ℕ) → List ℕ → TableCheck
@@ -40,9 +35,9 @@ unfoldable pub widthUpTo : ℕ → List ℕ → ℕ
 widthUpTo zero t = 0
 widthUpTo (suc left) t = cond (field t .more) (suc (widthUpTo left (after t))) 1
 
--- of the first record, counted no further than 33; no bytes are no record
+-- of the first record, counted no further than one more than a grid has columns; no bytes are no record
 unfoldable pub firstWidth : List ℕ → ℕ
-firstWidth t = cond (eqb (length t) 0) 0 (widthUpTo 33 t)
+firstWidth t = cond (eqb (length t) 0) 0 (widthUpTo (mostSide + 1) t)
 
 -- of each record of so many fields, the contents of `count` fields from one on, counted from 0, in reading order
 unfoldable pub columns : (records width from count : ℕ) → List ℕ → List (List ℕ)
@@ -51,13 +46,9 @@ columns (suc records) width from count t = contents count (past from t) ++ colum
 
 -- ---- what the functions on the way find
 
--- the number of the field that a field shows to be bad, missing or surplus, where so many are left behind it; 0 where none is
-abbrev pub fieldFault : (number left : ℕ) → Field → ℕ
-fieldFault number left f = cond (f .sound) (cond (cond (f .more) (ltb 0 left) (eqb left 0)) 0 (number + 1)) number
-
 -- the record at a place: its first fault, and where it has none the place after it
 abbrev pub recordAt : (width : ℕ) → List ℕ → ℕ → RecordCheck
 recordAt width text at =
-    cond (eqb (recordFault 1 width (drop at text)) 0)
+    cond (eqb (recordFault isSound 1 width (drop at text)) 0)
     (record { fault = 0; next = at + bytesIn width (drop at text) })
-    (record { fault = recordFault 1 width (drop at text); next = at })
+    (record { fault = recordFault isSound 1 width (drop at text); next = at })

@@ -1,13 +1,12 @@
 // Sheets of records that all have the same number of fields, whatever stands in them: a test, and the places of fields.
 ghost use mathlib.Core.Path.{_≡_};
-ghost use mathlib.Core.Bool.{cond};
 ghost use Prim.Native.Nat.{_+_, _^_, _<_};
-ghost use lib.Dec.{eqb, ltb};
 ghost use lib.ListN.{drop};
 ghost use Rattle.sheet_fields.specs.Runs.{bytesIn};
-ghost use Rattle.sheet_records.specs.Tables.{tableCheck, firstWidth, fieldFault, recordAt};
-use sheet_fields::Field;
+ghost use Rattle.sheet_records.specs.Tables.{tableCheck, firstWidth, recordAt};
 use sheet_fields::field_at;
+use sheet_fields::field_fault;
+use units::MOST_SIDE;
 
 // How many records a sheet has; or 0, with the line and the number of its first fault, both from 1.
 pub struct TableCheck {
@@ -66,7 +65,7 @@ fn check_record(text: &[u8], at: usize, width: usize) -> RecordCheck
     while i < width {
         let f = field_at(text, next);
         let number = i + 1;
-        let fault = field_fault(number, width - number, f);
+        let fault = field_fault(number, width - number, f.sound, f.more);
         if fault != 0 {
             return RecordCheck {
                 fault: fault,
@@ -82,31 +81,7 @@ fn check_record(text: &[u8], at: usize, width: usize) -> RecordCheck
     }
 }
 
-// The number of the field that a field shows to be bad, missing or surplus, 0 where none is.
-fn field_fault(number: usize, left: usize, f: Field) -> usize
-    requires { ⌜ number < 2 ^ 32 ⌝ }
-    ensures { λ r. ⌜ r ≡ fieldFault number left f ⌝ }
-{
-    if !f.sound {
-        return number;
-    }
-    if goes_on(f.more, left) {
-        return 0;
-    }
-    number + 1
-}
-
-// Whether a record goes on exactly where fields are left.
-fn goes_on(more: bool, left: usize) -> bool
-    ensures { λ r. ⌜ r ≡ cond more (ltb 0 left) (eqb left 0) ⌝ }
-{
-    if more {
-        return 0 < left;
-    }
-    left == 0
-}
-
-// How many fields the first record has, counted no further than 33.
+// How many fields the first record has, counted no further than one more than a grid has columns.
 pub fn first_width(text: &[u8]) -> usize
     ensures { λ r. ⌜ r ≡ firstWidth (now (text .entry)) ⌝ }
 {
@@ -115,7 +90,7 @@ pub fn first_width(text: &[u8]) -> usize
     }
     let mut next = 0;
     let mut width = 0;
-    while width < 33 {
+    while width <= MOST_SIDE {
         let f = field_at(text, next);
         width += 1;
         if !f.more {

@@ -1,3 +1,2 @@
-mod Earlier
 mod Examples
-mod Turns
+pub mod Places

@@ -2,7 +2,7 @@
 use Prim.Native.Nat.{ℕ, _+_}
 use mathlib.Core.Bool.{Bool, cond}
 use mathlib.Core.List.{List, [], _∷_, map}
-use lib.Dec.{eqb, ltb}
+use lib.Dec.{eqb}
 use Rattle.sheet_records.specs.Tables.{columns}
 use Rattle.sheet_numbers.specs.Counts.{isCount, fromZero}
 use Rattle.sheet_seeds.specs.declared.PlaceFault.{PlaceFault}
@@ -38,17 +38,6 @@ seedNames records sheet = columns records 3 2 1 sheet
 
 -- ---- what the functions on the way find
 
--- the elements of two lists by turns
-unfoldable pub turns : List ℕ → List ℕ → List ℕ
-turns [] ys = []
-turns (x ∷ xs) [] = []
-turns (x ∷ xs) (y ∷ ys) = x ∷ y ∷ turns xs ys
-
--- the fault of a line with a bad column, 0 where there is none
-abbrev pub columnFault : (column : ℕ) → PlaceFault
-columnFault column = cond (eqb column 0) allRead (fault column 2)
-
--- of a line with a bad row and one with a bad column, each 0 where there is none, the first; the row's where they are one
-abbrev pub earlier : (row column : ℕ) → PlaceFault
-earlier row column =
-    cond (eqb row 0) (columnFault column) (cond (eqb column 0) (fault row 1) (cond (ltb column row) (fault column 2) (fault row 1)))
+-- the fault found so far, or that of a line whose row and column can be read or not
+abbrev pub firstFound : PlaceFault → (row column : Bool) → (line : ℕ) → PlaceFault
+firstFound found row column line = cond (eqb (found .line) 0) (cond row (cond column allRead (fault line 2)) (fault line 1)) found

@@ -1,2 +1,1 @@
-pub mod Filled
 pub mod Strands

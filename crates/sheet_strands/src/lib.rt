@@ -3,7 +3,7 @@ ghost use mathlib.Core.Path.{_≡_};
 ghost use Prim.Native.Nat.{_+_, _<_};
 ghost use lib.ListN.{length};
 ghost use lib.Seq.{sets};
-ghost use Rattle.sheet_strands.specs.Filled.{Filled};
+ghost use Rattle.sheet_names.specs.FrontFilled.{FrontFilled};
 ghost use Rattle.sheet_strands.specs.Strands.{namesOf, logsOf, logFault};
 use sheet_names::Entries;
 use sheet_names::put_columns;
@@ -20,7 +20,9 @@ pub fn put_names(
 ) -> usize
     requires { ⌜ records + 1 < length (now offsets) ⌝ }
     requires { ⌜ records < length (now present) ⌝ }
-    ensures { λ r. ⌜ Filled (now (text .entry)) (now (offsets .entry)) (now (present .entry)) (namesOf records (now (sheet .entry))) r (now (text .exit)) (now (offsets .exit)) (now (present .exit)) ⌝ }
+    ensures { λ r.
+        ⌜ FrontFilled (now (text .entry)) (now (offsets .entry)) (now (present .entry)) 0 (namesOf records (now (sheet .entry)))
+        r (now (text .exit)) (now (offsets .exit)) (now (present .exit)) ⌝ }
 {
     let bytes = put_text(text, 0, b"null");
     offsets[0] = 0;

@@ -1,3 +1,4 @@
 pub mod Examples
 pub mod Parts
+pub mod Sums
 pub mod Turns

@@ -4,34 +4,17 @@ use mathlib.Core.Bool.{true}
 use mathlib.Core.List.{List, _++_}
 use mathlib.Core.Path.{_≡_, refl}
 use native.Mathlib.Omega.{arith}
-use lib.ListN.{length, getD}
-use Rattle.text_entries.proofs.Bounds.{entry-starts, offset-within}
+use lib.ListN.{length}
 use Rattle.bay_lists.specs.Lists.{Constraints, constraints, listOf, offsetsShaped}
 use Rattle.bay_lists.proofs.Restricting.{list-shape}
 use Rattle.text_put.specs.Puts.{Put}
 use Rattle.text_put.proofs.Putting.{Ending, ending-starts, ending-goes-on, ending-ends}
 use Rattle.sheet_text.specs.Written.{spaced, separator, rowText, sheetText}
-use Rattle.sheet_text.specs.Asked.{HasLists}
 use Rattle.sheet_text.proofs.Parts.{record-next, record-end, sheet-next, sheet-end, rows-left}
 
--- ---- what the shape of the offsets gives
-
-module _ (offsets tiles : List ℕ) where
-  pub has-lists : (bays : ℕ) → offsetsShaped bays (constraints true offsets tiles) ≡ true → HasLists offsets tiles bays
-  has-lists bays e =
-      let shape = list-shape bays true offsets tiles refl e in
-      let count = shape .count in
-      record { fit = shape .fit; enough = omega arith }
-
-  pub fewer-lists : (more bays : ℕ) → HasLists offsets tiles more → bays ≤ more → HasLists offsets tiles bays
-  fewer-lists more bays h k = record { fit = h .fit; enough = let e = h .enough in omega arith }
-
-  module _ (bay : ℕ) (h : HasLists offsets tiles (bay + 1)) where
-    pub list-starts : getD offsets bay 0 ≤ getD offsets (bay + 1) 0
-    list-starts = entry-starts (length tiles) offsets bay (h .fit) (h .enough)
-
-    pub list-ends : getD offsets (bay + 1) 0 ≤ length tiles
-    list-ends = offset-within (length tiles) offsets (bay + 1) (h .fit) (h .enough)
+-- one offset more than bays was lent
+pub shaped-count : (bays : ℕ) (offsets tiles : List ℕ) → offsetsShaped bays (constraints true offsets tiles) ≡ true → length offsets ≡ bays + 1
+shaped-count bays offsets tiles e = list-shape bays true offsets tiles refl e .count
 
 -- ---- a record's turns
 

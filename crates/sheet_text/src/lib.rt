@@ -1,15 +1,19 @@
-// A sheet written from the lists of a grid's bays into a lent text, as far as it fits.
+// A sheet written from the lists of a grid's bays into a lent text, as far as it fits; and how many bytes it takes.
 //
-// Each function puts its part at the place `at`, leaves the rest of the text as it is, and answers the next place.
+// Each function here puts its part at the place `at`, leaves the rest of the text as it is, and answers the next place.
 ghost use mathlib.Core.Path.{_≡_};
 ghost use mathlib.Core.Bool.{true};
 ghost use mathlib.Core.List.{_++_};
 ghost use Prim.Native.Nat.{_+_, _*_, _≤_};
 ghost use lib.ListN.{length};
 ghost use Rattle.text_put.specs.Puts.{Put, numberText};
-ghost use Rattle.bay_lists.specs.Lists.{constraints, listOf, offsetsShaped};
+ghost use Rattle.bay_lists.specs.Lists.{constraints, offsetsShaped};
 ghost use Rattle.sheet_text.specs.Written.{gap, spaced, separator, rowText, sheetText};
-ghost use Rattle.sheet_text.specs.Asked.{HasLists};
+
+mod lengths;
+
+use bay_list_readers::bay_list;
+pub use lengths::sheet_length;
 use text_put::put_number;
 use text_put::put_text;
 
@@ -24,19 +28,21 @@ pub fn put_sheet(
     requires { ⌜ offsetsShaped (rows * columns) (constraints true (now offsets) (now tiles)) ≡ true ⌝ }
     ensures { λ r. ⌜ Put (now (text .entry)) 0 (sheetText (constraints true (now (offsets .entry)) (now (tiles .entry))) columns 0 rows) r (now (text .exit)) ⌝ }
 {
+    let bays = rows * columns;
     let mut next = 0;
     let mut bay = 0;
     let mut left = rows;
     while 0 < left {
-        next = put_record(offsets, tiles, bay, columns, text, next);
+        next = put_record(bays, offsets, tiles, bay, columns, text, next);
         bay += columns;
         left -= 1;
     }
     next
 }
 
-// The record of so many bays from one on.
+// The record of so many of a grid's bays from one on.
 fn put_record(
+    bays: usize,
     offsets: &[usize],
     tiles: &[u32],
     first: usize,
@@ -44,7 +50,8 @@ fn put_record(
     text: &mut [u8],
     at: usize,
 ) -> usize
-    requires { ⌜ HasLists (now offsets) (now tiles) (first + columns) ⌝ }
+    requires { ⌜ offsetsShaped bays (constraints true (now offsets) (now tiles)) ≡ true ⌝ }
+    requires { ⌜ first + columns ≤ bays ⌝ }
     requires { ⌜ at ≤ length (now text) ⌝ }
     ensures { λ r. ⌜ Put (now (text .entry)) at (rowText (constraints true (now (offsets .entry)) (now (tiles .entry))) first columns) r (now (text .exit)) ⌝ }
 {
@@ -53,22 +60,11 @@ fn put_record(
     let mut left = columns;
     while 0 < left {
         left -= 1;
-        let end = put_bay(offsets, tiles, bay, text, next);
+        let end = put_field(bay_list(bays, true, offsets, tiles, bay), text, next);
         next = put_separator(left, text, end);
         bay += 1;
     }
     next
-}
-
-// The list of a bay.
-fn put_bay(offsets: &[usize], tiles: &[u32], bay: usize, text: &mut [u8], at: usize) -> usize
-    requires { ⌜ HasLists (now offsets) (now tiles) (bay + 1) ⌝ }
-    requires { ⌜ at ≤ length (now text) ⌝ }
-    ensures { λ r. ⌜ Put (now (text .entry)) at (spaced 0 (listOf (constraints true (now (offsets .entry)) (now (tiles .entry))) bay)) r (now (text .exit)) ⌝ }
-{
-    let from = offsets[bay];
-    let to = offsets[bay + 1];
-    put_field(&tiles[from..to], text, at)
 }
 
 // The numbers of a list with single spaces between them.
@@ -106,7 +102,8 @@ fn put_separator(left: usize, text: &mut [u8], at: usize) -> usize
     put_text(text, at, b",")
 }
 
-fn wide(n: u32) -> u64
+// The same number in 64 bits.
+pub(crate) fn wide(n: u32) -> u64
     ensures { λ r. ⌜ r ≡ n ⌝ }
 {
     n as u64

@@ -1,45 +1,37 @@
--- The turns of the two loops over a decimal's bytes: up to the point, and over digits. Assumes nothing.
-use Prim.Native.Nat.{ℕ, _+_, _*_, _^_, _≤_, _<_}
-use mathlib.Core.Path.{_≡_, refl, sym, _∙_}
-use mathlib.Core.Bool.{true, false, _&&_}
-use mathlib.Core.List.{List}
-use native.Mathlib.Nat.{add-zero, add-suc, zero-add, suc-add}
+-- The search for a decimal's point, and the turns of the loop over its digits. Assumes nothing.
+use Prim.Native.Nat.{ℕ, suc, _+_, _*_, _^_, _≤_, _<_}
+use mathlib.Core.Path.{_≡_, refl, sym, ap, _∙_}
+use mathlib.Core.Bool.{Bool, true, false, cond, _&&_}
+use mathlib.Core.List.{List, [], _∷_}
+use native.Mathlib.Nat.{zero-add}
 use native.Mathlib.Numerals.{add-one}
 use native.Mathlib.Omega.{arith}
-use borrow.Author.Tests.{eq-eqb, ne-eqb, lt-ltb, le-ltb}
-use lib.Dec.{ltb, lit<}
+use borrow.Author.Tests.{lt-ltb, le-ltb}
+use lib.Dec.{eqb, ltb, lit<}
 use lib.ListN.{length, getD, drop, drop-of-length-le}
-use lib.Seq.{drop-cons}
+use lib.Seq.{drop-cons, take-length}
+use Rattle.bytes.specs.Bytes.{slice, indexAfter, indexOf}
 use Rattle.text_digits.specs.Digits.{digit, allDigits, worth}
 use Rattle.text_digits.specs.declared.kinds.Number.{Number}
-use Rattle.text_digits.proofs.Worth.{and-false, worth-grows}
+use Rattle.units.proofs.Tests.{and-false}
+use Rattle.text_digits.proofs.Worth.{worth-grows}
 use Rattle.text_decimals.specs.Decimals.{wholeLength, areFew, digitsAfter}
 
 -- ---- up to the point
 
--- no point stands before the place
-pub record NoPointBefore (text : List ℕ) (i : ℕ) : Type 0 where
-  pub so-far : wholeLength text ≡ i + wholeLength (drop i text)
+point-at : (t : List ℕ) → indexOf 46 t ≡ wholeLength t
+unfolding indexOf indexAfter wholeLength
+point-at [] = refl
+point-at (b ∷ t) = go (eqb b 46) (point-at t)
+  where
+    go : (q : Bool) → indexOf 46 t ≡ wholeLength t → indexAfter q (indexOf 46 t) ≡ cond q 0 (suc (wholeLength t))
+    go true h = refl
+    go false h = ap suc h
 
-pub at-the-start : (text : List ℕ) → NoPointBefore text 0
-at-the-start text = record { so-far = sym (zero-add (wholeLength text)) }
-
-module _ (text : List ℕ) (i : ℕ) (s : NoPointBefore text i) where
-  pub no-point : length text ≤ i → i ≡ wholeLength text
-  unfolding wholeLength
-  no-point h = sym (s .so-far ∙ rw (drop-of-length-le text h) (add-zero i))
-
-  module _ (h : i < length text) where
-    pub at-the-point : getD text i 0 ≡ 46 → i ≡ wholeLength text
-    unfolding wholeLength
-    at-the-point e = sym (s .so-far ∙ rw (drop-cons text i 0 h, eq-eqb (getD text i 0) 46 e) (add-zero i))
-
-    pub past-a-digit : (getD text i 0 ≡ 46 → ⊥) → NoPointBefore text (i + 1)
-    unfolding wholeLength
-    past-a-digit n = record { so-far = s .so-far ∙ one-on }
-      where
-        one-on : i + wholeLength (drop i text) ≡ i + 1 + wholeLength (drop (i + 1) text)
-        one-on = rw (drop-cons text i 0 h, ne-eqb (getD text i 0) 46 n, add-one, add-suc, suc-add) refl
+-- the point where a search over the whole text finds it
+pub point-found : (t : List ℕ) → 0 + indexOf 46 (slice 0 (length t) t) ≡ wholeLength t
+unfolding slice
+point-found t = zero-add _ ∙ rw (take-length t) (point-at t)
 
 -- ---- over digits
 

@@ -4,7 +4,7 @@ use mathlib.Core.Path.{_≡_, refl, sym, _∙_, ap}
 use mathlib.Core.Bool.{Bool, true, false, cond, not, _&&_, _||_}
 use mathlib.Core.List.{List, [], _∷_, _++_}
 use native.Mathlib.Omega.{arith}
-use borrow.Author.Tests.{eq-eqb, ne-eqb, le-ltb, le-leb, lt-leb, ltb-true, ltb-false}
+use borrow.Author.Tests.{le-ltb, le-leb, lt-leb, ltb-true, ltb-false}
 use lib.Dec.{eqb, ltb, leb, lit<}
 use lib.ListN.{length, getD, take, drop, drop-of-length-le, length-drop}
 use lib.Seq.{take-all}
@@ -12,7 +12,8 @@ use Rattle.units.specs.Decimals.{decimal}
 use Rattle.text_digits.specs.Digits.{digit, allDigits, worth}
 use Rattle.text_digits.specs.declared.kinds.Number.{Number}
 use Rattle.text_digits.specs.declared.kinds.FloatValue.{FloatValue}
-use Rattle.text_digits.proofs.Worth.{and-false, and-left, and-right, worth-grows, read-of, read-none}
+use Rattle.units.proofs.Tests.{and-false, and-right}
+use Rattle.text_digits.proofs.Worth.{worth-grows, read-of, read-none}
 use Rattle.text_decimals.specs.Decimals.{wholeLength, isFormed, areFew, digitsAfter, overTen, isUnsigned, valueOf, signedOf, decimalOf}
 
 -- ---- digits before and after the point
@@ -86,41 +87,10 @@ whole-fits (b ∷ t) = go (eqb b 46) (whole-fits t)
     go true h = omega arith
     go false h = omega arith
 
-short-or-not : (point : ℕ) → 1 ≤ point → (zero-first : Bool) → (ltb 1 point && zero-first) ≡ false → (eqb point 1 || not zero-first) ≡ true
-short-or-not point some false h = or-true (eqb point 1)
-  where
-    or-true : (a : Bool) → (a || true) ≡ true
-    or-true true = refl
-    or-true false = refl
-short-or-not point some true h = rw (eq-eqb point 1 (one (ltb 1 point) refl h))
-  where
-    one : (b : Bool) → ltb 1 point ≡ b → (b && true) ≡ false → point ≡ 1
-    one false k g = let least = ltb-false 1 point k in omega arith
-    one true k g = let z : _≡_ {A = ℕ} 0 1 = cc in absurd (omega arith)
-
-module _ (t : List ℕ) (point : ℕ) (e : point ≡ wholeLength t) where
-  pub formed-nothing : point ≡ 0 → false ≡ isFormed t
-  unfolding isFormed
-  formed-nothing z = rw (← e, z)
-
-  module _ (some : 1 ≤ point) where
-    pub formed-zero : (ltb 1 point && eqb (getD t 0 0) 48) ≡ true → false ≡ isFormed t
-    unfolding isFormed
-    formed-zero h =
-        let long = ltb-true 1 point (and-left (ltb 1 point) (eqb (getD t 0 0) 48) h) in
-        rw (← e, le-leb 1 point some, ne-eqb point 1 (λ z. absurd (omega arith)), and-right (ltb 1 point) (eqb (getD t 0 0) 48) h)
-
-    module _ (plain : (ltb 1 point && eqb (getD t 0 0) 48) ≡ false) where
-      front : (eqb point 1 || not (eqb (getD t 0 0) 48)) ≡ true
-      front = short-or-not point some (eqb (getD t 0 0) 48) plain
-
-      pub formed-whole : point ≡ length t → true ≡ isFormed t
-      unfolding isFormed
-      formed-whole l = rw (← e, le-leb 1 point some, front, eq-eqb point (length t) l)
-
-      pub formed-places : (point ≡ length t → ⊥) → (places : ℕ) → places ≡ length t - suc point → leb 1 places ≡ isFormed t
-      unfolding isFormed
-      formed-places n places p = rw (← e, le-leb 1 point some, front, ne-eqb point (length t) n, length-drop (suc point) t, p)
+pub formed-is : (t : List ℕ) (point : ℕ) → point ≡ wholeLength t → (first : ℕ) → first ≡ getD t 0 0 → (places : ℕ) → places ≡ length t - suc point
+    → (leb 1 point && ((eqb point 1 || not (eqb first 48)) && (eqb point (length t) || leb 1 places))) ≡ isFormed t
+unfolding isFormed
+formed-is t point e first f places p = rw (← e, f, p, length-drop (suc point) t)
 
 -- ---- the number
 

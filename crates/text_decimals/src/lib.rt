@@ -2,15 +2,15 @@
 //
 // Up to 15 digits are a whole number below 2^53, and a power of ten up to 10^22 is a float too: one division rounds once.
 ghost use mathlib.Core.Path.{_≡_};
-ghost use mathlib.Core.Bool.{true, false, _&&_};
+ghost use mathlib.Core.Bool.{true, false};
 ghost use mathlib.Core.List.{_++_};
 ghost use Prim.Native.Nat.{suc, _-_, _^_, _≤_, _<_};
-ghost use lib.Dec.{eqb, ltb};
-ghost use lib.ListN.{length, getD, take, drop};
+ghost use lib.ListN.{length, take, drop};
 ghost use Rattle.units.specs.Decimals.{decimal as Decimals·decimal};
 ghost use Rattle.text_decimals.specs.Decimals.{wholeLength, isFormed, digitsAfter, overTen, signedOf, decimalOf, isMinusInfinity, logarithmOf};
 use text_digits::FloatValue;
 use text_digits::Number;
+use text_fronts::byte_at;
 
 const POWERS_OF_TEN: [f64; 23] = [
     1.0,
@@ -62,14 +62,7 @@ fn ratio(negative: bool, n: u64, k: usize) -> f64
 fn whole_length(text: &[u8]) -> usize
     ensures { λ r. ⌜ r ≡ wholeLength (now (text .entry)) ⌝ }
 {
-    let mut i = 0;
-    while i < text.len() {
-        if text[i] == 46 {
-            return i;
-        }
-        i += 1;
-    }
-    i
+    bytes::scan::find(text, 0, text.len(), b'.')
 }
 
 // What digits are worth after others that are worth n, where that is less than 10^15.
@@ -130,32 +123,14 @@ fn places_after(bytes: usize, point: usize) -> usize
     if point < bytes { bytes - point - 1 } else { 0 }
 }
 
-// A 0 in front of another digit.
-fn zero_in_front(text: &[u8], point: usize) -> bool
-    requires { ⌜ point ≤ length (now text) ⌝ }
-    ensures { λ r. ⌜ r ≡ ltb 1 point && eqb (getD (now (text .entry)) 0 0) 48 ⌝ }
-{
-    if point <= 1 {
-        return false;
-    }
-    text[0] == 48
-}
-
 // Digits before the point, and after it where there is one, without a 0 too many in front.
 fn is_formed(text: &[u8], point: usize) -> bool
     requires { ⌜ point ≡ wholeLength (now text) ⌝ }
     ensures { λ r. ⌜ r ≡ isFormed (now (text .entry)) ⌝ }
 {
-    if point == 0 {
-        return false;
-    }
-    if zero_in_front(text, point) {
-        return false;
-    }
-    if point == text.len() {
-        return true;
-    }
-    1 <= places_after(text.len(), point)
+    let first = (point == 1) | (byte_at(text, 0) != b'0');
+    let last = (point == text.len()) | (1 <= places_after(text.len(), point));
+    (1 <= point) & (first & last)
 }
 
 // A number of digits over a power of ten, with its sign, rounded once.
@@ -203,7 +178,7 @@ pub fn decimal(text: &[u8]) -> FloatValue
     if text.len() == 0 {
         return FloatValue::Unreadable;
     }
-    if text[0] == 45 {
+    if text[0] == b'-' {
         return after_the_sign(text);
     }
     signed(false, text)
@@ -213,19 +188,10 @@ pub fn decimal(text: &[u8]) -> FloatValue
 fn is_minus_infinity(text: &[u8]) -> bool
     ensures { λ r. ⌜ r ≡ isMinusInfinity (now (text .entry)) ⌝ }
 {
-    if text.len() != 4 {
-        return false;
-    }
-    if text[0] != 45 {
-        return false;
-    }
-    if text[1] != 105 {
-        return false;
-    }
-    if text[2] != 110 {
-        return false;
-    }
-    text[3] == 102
+    (text.len() == 4)
+        & ((byte_at(text, 0) == b'-')
+            & ((byte_at(text, 1) == b'i')
+                & ((byte_at(text, 2) == b'n') & (byte_at(text, 3) == b'f'))))
 }
 
 // A logarithm of a concentration: a decimal, or `-inf` for a strand that is not there.

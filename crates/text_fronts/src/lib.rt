@@ -1,8 +1,8 @@
 // The front of a slice by a count: what was read into it, or written. A count past the end gives
-// the whole slice, so that a caller has nothing to show.
+// the whole slice, so that a caller has nothing to show; a byte past the end is 0 likewise.
 ghost use mathlib.Core.Path.{_≡_};
 ghost use Prim.Native.Nat.{min};
-ghost use lib.ListN.{take};
+ghost use lib.ListN.{getD, take};
 
 pub fn first_bytes<'a>(s: &'a [u8], n: usize) -> &'a [u8]
     ensures { λ r. ⌜ now r ≡ take n (now (s .entry)) ⌝ }
@@ -39,8 +39,19 @@ pub fn first_floats<'a>(s: &'a [f64], n: usize) -> &'a [f64]
     &s[..k]
 }
 
-pub(crate) fn least(a: usize, b: usize) -> usize
+// The smaller of two numbers.
+pub fn least(a: usize, b: usize) -> usize
     ensures { λ r. ⌜ r ≡ min a b ⌝ }
 {
     if a < b { a } else { b }
+}
+
+// The byte at a place, 0 past the end.
+pub fn byte_at(text: &[u8], at: usize) -> u8
+    ensures { λ r. ⌜ r ≡ getD (now (text .entry)) at 0 ⌝ }
+{
+    if at < text.len() {
+        return text[at];
+    }
+    0
 }

@@ -1,10 +1,11 @@
 -- Laws of the character at the front of a text: how long it is by its tests, and that it lies within the text. Assumes nothing.
 use Prim.Native.Nat.{ℕ, _≤_}
-use mathlib.Core.Bool.{Bool, true, false, cond, _&&_}
+use mathlib.Core.Bool.{Bool, true, false, cond}
 use mathlib.Core.List.{List, [], _∷_}
 use mathlib.Core.Path.{_≡_, refl}
 use native.Mathlib.Omega.{arith}
 use lib.ListN.{length, getD}
+use Rattle.units.proofs.Tests.{and-false}
 use Rattle.text_plain.specs.Texts.{isBetween, isAlone, isSecond, isTwo, isThird, isThree, isFour, widthOf, characterLength}
 
 -- ---- the length by the tests
@@ -38,10 +39,6 @@ module _ (t : List ℕ) {a : ℕ} (ea : a ≡ getD t 0 0) where
 cond-same : (p : Bool) → cond p false false ≡ false
 cond-same true = refl
 cond-same false = refl
-
-pub and-false : (p : Bool) → p && false ≡ false
-and-false true = refl
-and-false false = refl
 
 not-alone : isAlone 0 ≡ false
 unfolding isAlone isBetween

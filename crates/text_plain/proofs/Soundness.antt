@@ -11,7 +11,8 @@ use lib.ListN.{length, getD, take}
 use Rattle.text_plain.specs.Texts.{isBetween, isAlone, isSecond, isTwo, isThird, isThree, isFour, widthOf, characterLength}
 use Rattle.text_plain.specs.Characters.{Allowed, tab, line-feed, carriage-return, ascii, below-surrogates, above-surrogates, far, Character, one, two, three, four}
 use Rattle.text_plain.proofs.Characters.{character-fits}
-use Rattle.text_plain.proofs.Tests.{cases, and-left, and-right, Between, between-says, Alone, alone-says, Second, after-c2, after-e0, after-ed, after-f0, after-f4, after-other, second-says, Third, low, not-ef, not-bf, third-says}
+use Rattle.units.proofs.Tests.{and-left, and-right}
+use Rattle.text_plain.proofs.Tests.{cases, Between, between-says, Alone, alone-says, Second, after-c2, after-e0, after-ed, after-f0, after-f4, after-other, second-says, Third, low, not-ef, not-bf, third-says}
 use Rattle.text_plain.proofs.Tests as tests
 
 -- ---- of one byte

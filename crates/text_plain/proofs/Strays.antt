@@ -9,7 +9,8 @@ use lib.Dec.{eqb}
 use lib.ListN.{length, take, drop, drop-of-length-le, length-drop}
 use lib.Seq.{take-all, drop-drop}
 use Rattle.text_plain.specs.Texts.{characterLength, strayAfter, firstStray, hasMark, withoutMark}
-use Rattle.text_plain.proofs.Characters.{and-false, character-fits}
+use Rattle.units.proofs.Tests.{and-false}
+use Rattle.text_plain.proofs.Characters.{character-fits}
 
 -- what is left of a character is passed
 passed : (left : ℕ) (t : List ℕ) → left ≤ length t → strayAfter left t ≡ left + strayAfter 0 (drop left t)

@@ -1,22 +1,15 @@
 -- What the tests on bytes say, as facts about numbers, both ways. Assumes nothing.
 use Prim.Native.Nat.{ℕ, _≤_, _<_}
-use mathlib.Core.Bool.{Bool, true, false, _&&_}
+use mathlib.Core.Bool.{Bool, true, false}
 use mathlib.Core.Path.{_≡_, refl}
 use native.Mathlib.Omega.{arith}
 use borrow.Author.Tests.{ne-eqb, le-leb, lt-leb, leb-true, eqb-true, eqb-false}
 use lib.Dec.{eqb, leb}
+use Rattle.units.proofs.Tests.{and-left, and-right, and-false}
 use Rattle.text_plain.specs.Texts.{isBetween, isAlone, isSecond, isThird}
 
 never : {A : Type 0} → false ≡ true → A
 never e = let z : _≡_ {A = ℕ} 0 1 = cc in absurd (omega arith)
-
-pub and-left : (p q : Bool) → p && q ≡ true → p ≡ true
-and-left true q e = refl
-and-left false q e = e
-
-pub and-right : (p q : Bool) → p && q ≡ true → q ≡ true
-and-right true q e = e
-and-right false q e = never e
 
 pub record Between (low high b : ℕ) : Type 0 where
   pub least : low ≤ b
@@ -32,11 +25,7 @@ is-between low high b h k = rw (le-leb low b h, le-leb b high k)
 
 pub too-high : (low high b : ℕ) → high < b → isBetween low high b ≡ false
 unfolding isBetween
-too-high low high b h = rw (lt-leb b high h) (go (leb low b))
-  where
-    go : (p : Bool) → p && false ≡ false
-    go true = refl
-    go false = refl
+too-high low high b h = rw (lt-leb b high h) (and-false (leb low b))
 
 -- a test, and what it says either way
 pub cases : {A : Type 0} (p : Bool) → (p ≡ true → A) → (p ≡ false → A) → A

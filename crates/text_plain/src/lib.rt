@@ -1,8 +1,8 @@
 // Whether bytes are a text: UTF-8 after RFC 3629, without the characters that XML does not allow and without control
 // characters other than tab, line feed and carriage return.
 ghost use mathlib.Core.Path.{_≡_};
-ghost use lib.ListN.{getD};
 ghost use Rattle.text_plain.specs.Texts.{isBetween, isAlone, isSecond, isTwo, isThird, isThree, isFour, characterLength, firstStray, hasMark, withoutMark};
+use text_fronts::byte_at;
 
 // The place of the first byte that is no part of a text, or the length where all are.
 pub fn first_stray(text: &[u8]) -> usize
@@ -33,13 +33,7 @@ pub fn without_mark<'a>(text: &'a [u8]) -> &'a [u8]
 fn has_mark(text: &[u8]) -> bool
     ensures { λ r. ⌜ r ≡ hasMark (now (text .entry)) ⌝ }
 {
-    if byte_at(text, 0) != 0xEF {
-        return false;
-    }
-    if byte_at(text, 1) != 0xBB {
-        return false;
-    }
-    byte_at(text, 2) == 0xBF
+    (byte_at(text, 0) == 0xEF) & ((byte_at(text, 1) == 0xBB) & (byte_at(text, 2) == 0xBF))
 }
 
 // How many bytes the character at the front of a text takes, 0 where none stands there.
@@ -69,55 +63,29 @@ fn character_length(text: &[u8]) -> usize
 fn is_alone(b: u8) -> bool
     ensures { λ r. ⌜ r ≡ isAlone b ⌝ }
 {
-    if b == b'\t' {
-        return true;
-    }
-    if b == b'\n' {
-        return true;
-    }
-    if b == b'\r' {
-        return true;
-    }
-    is_between(b, 0x20, 0x7E)
+    (b == b'\t') | ((b == b'\n') | ((b == b'\r') | is_between(b, 0x20, 0x7E)))
 }
 
 // Whether two bytes are a character.
 fn is_two(a: u8, b: u8) -> bool
     ensures { λ r. ⌜ r ≡ isTwo a b ⌝ }
 {
-    if is_between(a, 0xC2, 0xDF) {
-        return is_second(a, b);
-    }
-    false
+    is_between(a, 0xC2, 0xDF) & is_second(a, b)
 }
 
 // Whether three bytes are a character.
 fn is_three(a: u8, b: u8, c: u8) -> bool
     ensures { λ r. ⌜ r ≡ isThree a b c ⌝ }
 {
-    if !is_between(a, 0xE0, 0xEF) {
-        return false;
-    }
-    if !is_second(a, b) {
-        return false;
-    }
-    is_third(a, b, c)
+    is_between(a, 0xE0, 0xEF) & (is_second(a, b) & is_third(a, b, c))
 }
 
 // Whether four bytes are a character.
 fn is_four(a: u8, b: u8, c: u8, d: u8) -> bool
     ensures { λ r. ⌜ r ≡ isFour a b c d ⌝ }
 {
-    if !is_between(a, 0xF0, 0xF4) {
-        return false;
-    }
-    if !is_second(a, b) {
-        return false;
-    }
-    if !is_between(c, 0x80, 0xBF) {
-        return false;
-    }
-    is_between(d, 0x80, 0xBF)
+    is_between(a, 0xF0, 0xF4)
+        & (is_second(a, b) & (is_between(c, 0x80, 0xBF) & is_between(d, 0x80, 0xBF)))
 }
 
 // Whether a byte can follow the first one of a character of several.
@@ -159,18 +127,5 @@ fn is_third(a: u8, b: u8, c: u8) -> bool
 fn is_between(b: u8, low: u8, high: u8) -> bool
     ensures { λ r. ⌜ r ≡ isBetween low high b ⌝ }
 {
-    if b < low {
-        return false;
-    }
-    b <= high
-}
-
-// The byte at a place, 0 past the end.
-fn byte_at(text: &[u8], at: usize) -> u8
-    ensures { λ r. ⌜ r ≡ getD (now (text .entry)) at 0 ⌝ }
-{
-    if text.len() <= at {
-        return 0;
-    }
-    text[at]
+    (low <= b) & (b <= high)
 }

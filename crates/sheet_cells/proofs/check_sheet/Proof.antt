@@ -19,9 +19,6 @@ loop-holds c = let a = c .before .args in sheet-starts (a .rows) (a .columns) (a
 check-record-requires : tie.Need-check-record-requires Inv-loop μ-loop
 check-record-requires c κs = (c .before .loop .inv .inside, c .before .before .before .pre .1)
 
-add-line : tie.Need-add-line Inv-loop μ-loop
-add-line c = search needs
-
 returns : tie.Need-returns Inv-loop μ-loop
 returns c =
     let l = c .before .before .before .before in
@@ -40,9 +37,6 @@ add-count c =
     let end = inside-more (a .rows) (a .columns) (a .text .now) (s .line) (s .next) (s .count) (s .inv) (c .before .before .before .before .loop-test .taken) (r .result) (r .ensures) (c .before .if1 .left) in
     omega arith
 
-loop-less : tie.Need-loop-less Inv-loop μ-loop
-loop-less c = search needs
-
 loop-again : tie.Need-loop-again Inv-loop μ-loop
 loop-again c =
     let l = c .before .before .before .before .before in
@@ -50,9 +44,6 @@ loop-again c =
     let s = l .loop in
     let r = c .before .before .before .check-record in
     sheet-goes-on (a .rows) (a .columns) (a .text .now) (s .line) (s .next) (s .count) (s .inv) (c .before .before .before .before .loop-test .taken) (r .result) (r .ensures) (c .before .if1 .left)
-
-add-t11 : tie.Need-add-t11 Inv-loop μ-loop
-add-t11 c = search needs
 
 returns-2 : tie.Need-returns-2 Inv-loop μ-loop
 returns-2 c =
@@ -71,16 +62,5 @@ returns-3 c =
 pub check-sheet-spec : {M : Type 1} → statement M
 check-sheet-spec =
     tie.close
-    (tie.spec
-    Inv-loop
-    μ-loop
-    loop-holds
-    check-record-requires
-    add-line
-    returns
-    add-count
-    loop-less
-    loop-again
-    add-t11
-    returns-2
-    returns-3)
+    (tie.spec Inv-loop μ-loop loop-holds check-record-requires (λ c. search needs) returns add-count
+    (λ c. search needs) loop-again (λ c. search needs) returns-2 returns-3)

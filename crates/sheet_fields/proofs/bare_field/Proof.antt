@@ -5,12 +5,6 @@ use borrow.Author.Needs.{needs}
 use Rattle.sheet_fields.proofs.bare_field.Statement.{statement}
 use Rattle.sheet_fields.proofs.bare_field.Tie as tie
 
-plain-end-requires : tie.Need-plain-end-requires
-plain-end-requires c κs = search needs
-
-ending-at-requires : tie.Need-ending-at-requires
-ending-at-requires c κs = search needs
-
 placed-at-requires : tie.Need-placed-at-requires
 placed-at-requires c κs =
     let s = c .before .before .before in
@@ -24,4 +18,5 @@ returns c =
 
 pub bare-field-spec : {M : Type 1} → statement M
 bare-field-spec =
-    tie.close (tie.spec plain-end-requires ending-at-requires placed-at-requires returns)
+    tie.close
+    (tie.spec (λ c κs. search needs) (λ c κs. search needs) placed-at-requires returns)

@@ -8,20 +8,11 @@ use Rattle.sheet_fields.proofs.ending_at.Tie as tie
 returns : tie.Need-returns
 returns c = let a = c .before .before .args in ending-past (a .text .now) (a .at) (c .if1 .taken)
 
-shared-slice-read-b : tie.Need-shared-slice-read-b
-shared-slice-read-b c = search needs
-
 returns-2 : tie.Need-returns-2
 returns-2 c = let a = c .before .before .before .before .args in ending-comma (a .text .now) (a .at) (c .before .before .if1 .left) (c .if2 .taken)
 
 returns-3 : tie.Need-returns-3
 returns-3 c = let a = c .before .before .before .before .before .args in ending-lf (a .text .now) (a .at) (c .before .before .before .if1 .left) (c .before .if2 .left) (c .if3 .taken)
-
-add-byte-at : tie.Need-add-byte-at
-add-byte-at c = search needs
-
-byte-at-requires : tie.Need-byte-at-requires
-byte-at-requires c κs = search needs
 
 returns-4 : tie.Need-returns-4
 returns-4 c =
@@ -39,13 +30,5 @@ returns-6 c = let a = c .before .before .before .before .before .before .args in
 pub ending-at-spec : {M : Type 1} → statement M
 ending-at-spec =
     tie.close
-    (tie.spec
-    returns
-    shared-slice-read-b
-    returns-2
-    returns-3
-    add-byte-at
-    byte-at-requires
-    returns-4
-    returns-5
-    returns-6)
+    (tie.spec returns (λ c. search needs) returns-2 returns-3 (λ c. search needs) (λ c κs. search needs)
+    returns-4 returns-5 returns-6)

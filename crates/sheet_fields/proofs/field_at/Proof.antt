@@ -6,9 +6,6 @@ use borrow.Author.Needs.{needs}
 use Rattle.sheet_fields.proofs.field_at.Statement.{statement}
 use Rattle.sheet_fields.proofs.field_at.Tie as tie
 
-byte-at-requires : tie.Need-byte-at-requires
-byte-at-requires c κs = search needs
-
 quoted-field-requires : tie.Need-quoted-field-requires
 quoted-field-requires c κs = let a = c .before .before .before .args in quote-within (a .text .now) (a .at) (sym (c .before .byte-at .ensures) ∙ c .if1 .taken)
 
@@ -17,9 +14,6 @@ unfolding field
 returns c =
     let a = c .before .before .before .before .args in
     rw (quote-first (a .text .now) (a .at) (sym (c .before .before .byte-at .ensures) ∙ c .before .if1 .taken)) (c .quoted-field .ensures)
-
-bare-field-requires : tie.Need-bare-field-requires
-bare-field-requires c κs = search needs
 
 returns-2 : tie.Need-returns-2
 unfolding field
@@ -30,4 +24,4 @@ returns-2 c =
 pub field-at-spec : {M : Type 1} → statement M
 field-at-spec =
     tie.close
-    (tie.spec byte-at-requires quoted-field-requires returns bare-field-requires returns-2)
+    (tie.spec (λ c κs. search needs) quoted-field-requires returns (λ c κs. search needs) returns-2)

@@ -4,9 +4,6 @@ use borrow.Author.Needs.{needs}
 use Rattle.sheet_fields.proofs.placed_at.Statement.{statement}
 use Rattle.sheet_fields.proofs.placed_at.Tie as tie
 
-add-t7 : tie.Need-add-t7
-add-t7 c = search needs
-
 returns : tie.Need-returns
 unfolding placed
 returns c = rw (c .before .if1 .taken)
@@ -16,4 +13,4 @@ unfolding placed
 returns-2 c = rw (c .if1 .left)
 
 pub placed-at-spec : {M : Type 1} → statement M
-placed-at-spec = tie.close (tie.spec add-t7 returns returns-2)
+placed-at-spec = tie.close (tie.spec (λ c. search needs) returns returns-2)

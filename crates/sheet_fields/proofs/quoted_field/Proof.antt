@@ -7,15 +7,6 @@ use borrow.Author.Needs.{needs}
 use Rattle.sheet_fields.proofs.quoted_field.Statement.{statement}
 use Rattle.sheet_fields.proofs.quoted_field.Tie as tie
 
-add-from : tie.Need-add-from
-add-from c = search needs
-
-quoted-end-requires : tie.Need-quoted-end-requires
-quoted-end-requires c κs = search needs
-
-byte-at-requires : tie.Need-byte-at-requires
-byte-at-requires c κs = search needs
-
 returns : tie.Need-returns
 returns c =
     let a = c .before .before .before .before .args in
@@ -25,9 +16,6 @@ add-close : tie.Need-add-close
 add-close c =
     let a = c .before .before .before .before .args in
     omega (arith, quote-within (a .text .now) (c .before .before .quoted-end .result) (sym (c .before .byte-at .ensures) ∙ c .if1 .left))
-
-ending-at-requires : tie.Need-ending-at-requires
-ending-at-requires c κs = search needs
 
 placed-at-requires : tie.Need-placed-at-requires
 placed-at-requires c κs =
@@ -45,12 +33,5 @@ returns-2 c =
 pub quoted-field-spec : {M : Type 1} → statement M
 quoted-field-spec =
     tie.close
-    (tie.spec
-    add-from
-    quoted-end-requires
-    byte-at-requires
-    returns
-    add-close
-    ending-at-requires
-    placed-at-requires
-    returns-2)
+    (tie.spec (λ c. search needs) (λ c κs. search needs) (λ c κs. search needs) returns add-close
+    (λ c κs. search needs) placed-at-requires returns-2)

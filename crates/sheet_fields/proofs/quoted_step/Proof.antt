@@ -5,17 +5,8 @@ use borrow.Author.Needs.{needs}
 use Rattle.sheet_fields.proofs.quoted_step.Statement.{statement}
 use Rattle.sheet_fields.proofs.quoted_step.Tie as tie
 
-shared-slice-read-if1 : tie.Need-shared-slice-read-if1
-shared-slice-read-if1 c = search needs
-
 returns : tie.Need-returns
 returns c = let a = c .before .before .before .args in step-one (a .text .now) (a .at) (c .if1 .taken)
-
-add-byte-at : tie.Need-add-byte-at
-add-byte-at c = search needs
-
-byte-at-requires : tie.Need-byte-at-requires
-byte-at-requires c κs = search needs
 
 returns-2 : tie.Need-returns-2
 returns-2 c =
@@ -32,4 +23,4 @@ returns-3 c =
 pub quoted-step-spec : {M : Type 1} → statement M
 quoted-step-spec =
     tie.close
-    (tie.spec shared-slice-read-if1 returns add-byte-at byte-at-requires returns-2 returns-3)
+    (tie.spec (λ c. search needs) returns (λ c. search needs) (λ c κs. search needs) returns-2 returns-3)

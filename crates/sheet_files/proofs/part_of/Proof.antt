@@ -16,9 +16,6 @@ below-zero : (got : ℤ) → ltZ got (pos 0) ≡ fails got
 below-zero (pos n) = le-ltb n 0 (omega arith)
 below-zero (negsuc n) = refl
 
-count-requires : tie.Need-count-requires
-count-requires c κs = search needs
-
 returns : tie.Need-returns
 returns c =
     let a = c .before .before .args in
@@ -28,4 +25,4 @@ returns c =
     )
 
 pub part-of-spec : {M : Type 1} → statement M
-part-of-spec = tie.close (tie.spec count-requires returns)
+part-of-spec = tie.close (tie.spec (λ c κs. search needs) returns)

@@ -5,21 +5,6 @@ use borrow.Author.Needs.{needs}
 use Rattle.sheet_files.proofs.put_path.Statement.{statement}
 use Rattle.sheet_files.proofs.put_path.Tie as tie
 
-put-text-requires : tie.Need-put-text-requires
-put-text-requires c κs = search needs
-
-slice-aggregate-put-text : tie.Need-slice-aggregate-put-text
-slice-aggregate-put-text c = search needs
-
-put-text-requires-2 : tie.Need-put-text-requires-2
-put-text-requires-2 c κs = search needs
-
-put-text-requires-3 : tie.Need-put-text-requires-3
-put-text-requires-3 c κs = search needs
-
-same-length : tie.Need-same-length
-same-length c = search needs
-
 returns : tie.Need-returns
 returns c =
     let third = c .before .before in
@@ -31,10 +16,5 @@ returns c =
 pub put-path-spec : {M : Type 1} → statement M
 put-path-spec =
     tie.close
-    (tie.spec
-    put-text-requires
-    slice-aggregate-put-text
-    put-text-requires-2
-    put-text-requires-3
-    same-length
-    returns)
+    (tie.spec (λ c κs. search needs) (λ c. search needs) (λ c κs. search needs) (λ c κs. search needs)
+    (λ c. search needs) returns)

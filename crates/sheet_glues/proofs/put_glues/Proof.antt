@@ -9,12 +9,6 @@ use Rattle.sheet_glues.proofs.Gluing.{whole-rows, glues-laid}
 use Rattle.sheet_glues.proofs.put_glues.Statement.{statement}
 use Rattle.sheet_glues.proofs.put_glues.Tie as tie
 
-slice-write-offsets : tie.Need-slice-write-offsets
-slice-write-offsets c = search needs
-
-sub-records : tie.Need-sub-records
-sub-records c = search needs
-
 put-columns-requires : tie.Need-put-columns-requires
 put-columns-requires c κs =
     let s = c .before .before .before .before .before .before .before .before in
@@ -34,18 +28,12 @@ put-columns-requires-2 c κs =
     let present = appended-present a in
     (omega arith, (appended-within a, (omega (arith, s .pre .1 .0), omega (arith, s .pre .1 .1))))
 
-same-length : tie.Need-same-length
-same-length c = search needs
-
 same-length-2 : tie.Need-same-length-2
 same-length-2 c =
     let all = c .before .before .before .before .before .before in
     let first = all .before .before .before .before .before .before .before .before .before .before in
     let s = first .before .before .before .before .before .before .before .before .before in
     appended-offsets (all .put-columns2 .ensures) ∙ appended-offsets (first .put-columns .ensures) ∙ length-set (s .args .offsets .now) 0 0
-
-same-length-3 : tie.Need-same-length-3
-same-length-3 c = search needs
 
 returns : tie.Need-returns
 returns c =
@@ -57,12 +45,5 @@ returns c =
 pub put-glues-spec : {M : Type 1} → statement M
 put-glues-spec =
     tie.close
-    (tie.spec
-    slice-write-offsets
-    sub-records
-    put-columns-requires
-    put-columns-requires-2
-    same-length
-    same-length-2
-    same-length-3
-    returns)
+    (tie.spec (λ c. search needs) (λ c. search needs) put-columns-requires put-columns-requires-2
+    (λ c. search needs) same-length-2 (λ c. search needs) returns)

@@ -4,33 +4,12 @@ use borrow.Author.Needs.{needs}
 use Rattle.sheet_glues.proofs.register_sheets.Statement.{statement}
 use Rattle.sheet_glues.proofs.register_sheets.Tie as tie
 
-put-glues-requires : tie.Need-put-glues-requires
-put-glues-requires c κs = search needs
-
 register-fronts-requires : tie.Need-register-fronts-requires
 register-fronts-requires c κs =
     let all = c .before .before .before .before .before .before .before .before .before .before .before .before in
     let s = all .before .before .before .before .before .before .before .before .before .before .before .before in
     let g = s .args in
     glues-inside (g .rows) (g .cols) (g .strands) (g .strand-sheet .now) (g .scaffold-sheet .now) (g .offsets .now) (all .put-glues .ensures) (s .pre .1 .0)
-
-same-length : tie.Need-same-length
-same-length c = search needs
-
-same-length-2 : tie.Need-same-length-2
-same-length-2 c = search needs
-
-same-length-3 : tie.Need-same-length-3
-same-length-3 c = search needs
-
-same-length-4 : tie.Need-same-length-4
-same-length-4 c = search needs
-
-same-length-5 : tie.Need-same-length-5
-same-length-5 c = search needs
-
-same-length-6 : tie.Need-same-length-6
-same-length-6 c = search needs
 
 returns : tie.Need-returns
 returns c =
@@ -46,13 +25,5 @@ returns c =
 pub register-sheets-spec : {M : Type 1} → statement M
 register-sheets-spec =
     tie.close
-    (tie.spec
-    put-glues-requires
-    register-fronts-requires
-    same-length
-    same-length-2
-    same-length-3
-    same-length-4
-    same-length-5
-    same-length-6
-    returns)
+    (tie.spec (λ c κs. search needs) register-fronts-requires (λ c. search needs) (λ c. search needs)
+    (λ c. search needs) (λ c. search needs) (λ c. search needs) (λ c. search needs) returns)

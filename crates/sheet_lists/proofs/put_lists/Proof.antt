@@ -21,26 +21,14 @@ loop-holds c =
     let a = s .args in
     filling-starts (a .bays) (a .text .now) (a .tiles .now) (a .offsets .now) (s .pre .0) (s .pre .1 .0) (s .pre .1 .1)
 
-mul-offsets : tie.Need-mul-offsets Inv-loop μ-loop
-mul-offsets c = search needs
-
 slice-write-offsets : tie.Need-slice-write-offsets Inv-loop μ-loop
 slice-write-offsets c = let long = c .before .loop .inv .long in omega arith
-
-field-at-requires : tie.Need-field-at-requires Inv-loop μ-loop
-field-at-requires c κs = search needs
 
 put-between-requires : tie.Need-put-between-requires Inv-loop μ-loop
 put-between-requires c κs =
     let l = c .before .before .before in
     let w = field-at-within (l .before .before .before .before .args .text .now) (l .loop .next) (l .loop .inv .inside) in
     rw (c .before .field-at .ensures) (w .ordered, let on = w .onward in let end = w .ends in omega arith)
-
-add-bay : tie.Need-add-bay Inv-loop μ-loop
-add-bay c = search needs
-
-loop-less : tie.Need-loop-less Inv-loop μ-loop
-loop-less c = search needs
 
 loop-again : tie.Need-loop-again Inv-loop μ-loop
 loop-again c =
@@ -50,9 +38,6 @@ loop-again c =
     let f = c .before .before .before .before .field-at in
     filling-goes-on (a .bays) (a .text .now) (a .tiles .now) (s .offsets) (s .tiles) (s .bay) (s .next) (s .at) (s .inv) (c .before .before .before .before .before .loop-test .taken) (f .result) (f .ensures) (c .before .before .put-between .result) _
     (c .before .before .put-between .ensures)
-
-mul-offsets-2 : tie.Need-mul-offsets-2 Inv-loop μ-loop
-mul-offsets-2 c = search needs
 
 slice-write-offsets-2 : tie.Need-slice-write-offsets-2 Inv-loop μ-loop
 slice-write-offsets-2 c = let long = c .before .loop .inv .long in omega arith
@@ -75,19 +60,6 @@ returns c =
 pub put-lists-spec : {M : Type 1} → statement M
 put-lists-spec =
     tie.close
-    (tie.spec
-    Inv-loop
-    μ-loop
-    loop-holds
-    mul-offsets
-    slice-write-offsets
-    field-at-requires
-    put-between-requires
-    add-bay
-    loop-less
-    loop-again
-    mul-offsets-2
-    slice-write-offsets-2
-    same-length
-    same-length-2
-    returns)
+    (tie.spec Inv-loop μ-loop loop-holds (λ c. search needs) slice-write-offsets (λ c κs. search needs)
+    put-between-requires (λ c. search needs) (λ c. search needs) loop-again (λ c. search needs)
+    slice-write-offsets-2 same-length same-length-2 returns)

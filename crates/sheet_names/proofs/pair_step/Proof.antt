@@ -4,23 +4,11 @@ use borrow.Author.Needs.{needs}
 use Rattle.sheet_names.proofs.pair_step.Statement.{statement}
 use Rattle.sheet_names.proofs.pair_step.Tie as tie
 
-shared-slice-read-if1 : tie.Need-shared-slice-read-if1
-shared-slice-read-if1 c = search needs
-
 returns : tie.Need-returns
 returns c = let a = c .before .before .args in step-other (a .raw .now) (a .i) (c .if1 .taken)
 
-add-if2 : tie.Need-add-if2
-add-if2 c = search needs
-
 returns-2 : tie.Need-returns-2
 returns-2 c = let a = c .before .before .before .args in step-last (a .raw .now) (a .i) (c .before .if1 .left) (c .if2 .taken)
-
-add-if3 : tie.Need-add-if3
-add-if3 c = search needs
-
-shared-slice-read-if3 : tie.Need-shared-slice-read-if3
-shared-slice-read-if3 c = search needs
 
 returns-3 : tie.Need-returns-3
 returns-3 c = let first = c .before .before .before in let a = first .before .before .args in step-alone (a .raw .now) (a .i) (first .if1 .left) (c .if3 .taken)
@@ -31,12 +19,5 @@ returns-4 c = let first = c .before .before .before in let a = first .before .be
 pub pair-step-spec : {M : Type 1} → statement M
 pair-step-spec =
     tie.close
-    (tie.spec
-    shared-slice-read-if1
-    returns
-    add-if2
-    returns-2
-    add-if3
-    shared-slice-read-if3
-    returns-3
-    returns-4)
+    (tie.spec (λ c. search needs) returns (λ c. search needs) returns-2 (λ c. search needs)
+    (λ c. search needs) returns-3 returns-4)

@@ -20,12 +20,6 @@ loop-holds c =
     let a = start .args in
     columns-start (a .records) (a .width) (a .from) (a .to - a .from) (a .text .now) (a .out .now) (a .offsets .now) (a .present .now) (a .start) (start .pre .1 .0)
 
-place-after-requires : tie.Need-place-after-requires Inv-loop μ-loop
-place-after-requires c κs = search needs
-
-sub-put-fields : tie.Need-sub-put-fields Inv-loop μ-loop
-sub-put-fields c = search needs
-
 put-fields-requires : tie.Need-put-fields-requires Inv-loop μ-loop
 put-fields-requires c κs =
     let f = c .before .before .before in
@@ -40,15 +34,6 @@ put-fields-requires c κs =
     let offsets-fit = start .pre .1 .1 .0 in
     let present-fit = start .pre .1 .1 .1 in
     (first-inside (a .records) (a .width) (a .from) (a .to - a .from) (a .text .now) (a .out .now) (a .offsets .now) (a .present .now) (a .start) (start .pre .1 .0) (s .stop) (s .next) (s .i) (s .out) (s .offsets) (s .present) (s .inv) (f .place-after .result) (f .place-after .ensures), (appended-within (s .inv .done), (omega arith, omega arith)))
-
-place-after-requires-2 : tie.Need-place-after-requires-2 Inv-loop μ-loop
-place-after-requires-2 c κs = search needs
-
-add-i : tie.Need-add-i Inv-loop μ-loop
-add-i c = search needs
-
-loop-less : tie.Need-loop-less Inv-loop μ-loop
-loop-less c = search needs
 
 loop-again : tie.Need-loop-again Inv-loop μ-loop
 loop-again c =
@@ -81,18 +66,6 @@ returns c =
 pub put-columns-spec : {M : Type 1} → statement M
 put-columns-spec =
     tie.close
-    (tie.spec
-    Inv-loop
-    μ-loop
-    loop-holds
-    place-after-requires
-    sub-put-fields
-    put-fields-requires
-    place-after-requires-2
-    add-i
-    loop-less
-    loop-again
-    same-length
-    same-length-2
-    same-length-3
-    returns)
+    (tie.spec Inv-loop μ-loop loop-holds (λ c κs. search needs) (λ c. search needs) put-fields-requires
+    (λ c κs. search needs) (λ c. search needs) (λ c. search needs) loop-again same-length same-length-2
+    same-length-3 returns)

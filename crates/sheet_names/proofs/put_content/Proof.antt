@@ -7,18 +7,12 @@ use borrow.Author.Needs.{needs}
 use Rattle.sheet_names.proofs.put_content.Statement.{statement}
 use Rattle.sheet_names.proofs.put_content.Tie as tie
 
-field-at-requires : tie.Need-field-at-requires
-field-at-requires c κs = search needs
-
 put-between-requires : tie.Need-put-between-requires
 put-between-requires c κs =
     let f = c .before in
     let start = f .before .before .before in
     let w = field-at-within (start .args .text .now) (start .args .at) (start .pre) in
     rw (f .field-at .ensures) (w .ordered, let on = w .onward in let end = w .ends in omega arith)
-
-same-length : tie.Need-same-length
-same-length c = search needs
 
 returns : tie.Need-returns
 returns c =
@@ -28,4 +22,6 @@ returns c =
     put-as (content-at (a .text .now) (a .at) (f .field-at .result) (f .field-at .ensures)) (p .put-between .ensures)
 
 pub put-content-spec : {M : Type 1} → statement M
-put-content-spec = tie.close (tie.spec field-at-requires put-between-requires same-length returns)
+put-content-spec =
+    tie.close
+    (tie.spec (λ c κs. search needs) put-between-requires (λ c. search needs) returns)

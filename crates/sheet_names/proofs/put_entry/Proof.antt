@@ -9,33 +9,6 @@ use borrow.Author.Needs.{needs}
 use Rattle.sheet_names.proofs.put_entry.Statement.{statement}
 use Rattle.sheet_names.proofs.put_entry.Tie as tie
 
-put-between-requires : tie.Need-put-between-requires
-put-between-requires c κs = search needs
-
-add-next : tie.Need-add-next
-add-next c = search needs
-
-flag-requires : tie.Need-flag-requires
-flag-requires c κs = search needs
-
-slice-write-present : tie.Need-slice-write-present
-slice-write-present c = search needs
-
-mul-offsets : tie.Need-mul-offsets
-mul-offsets c = search needs
-
-slice-write-offsets : tie.Need-slice-write-offsets
-slice-write-offsets c = search needs
-
-same-length : tie.Need-same-length
-same-length c = search needs
-
-same-length-2 : tie.Need-same-length-2
-same-length-2 c = search needs
-
-same-length-3 : tie.Need-same-length-3
-same-length-3 c = search needs
-
 returns : tie.Need-returns
 returns c =
     let p = c .before .before .before in
@@ -48,14 +21,6 @@ returns c =
 pub put-entry-spec : {M : Type 1} → statement M
 put-entry-spec =
     tie.close
-    (tie.spec
-    put-between-requires
-    add-next
-    flag-requires
-    slice-write-present
-    mul-offsets
-    slice-write-offsets
-    same-length
-    same-length-2
-    same-length-3
+    (tie.spec (λ c κs. search needs) (λ c. search needs) (λ c κs. search needs) (λ c. search needs)
+    (λ c. search needs) (λ c. search needs) (λ c. search needs) (λ c. search needs) (λ c. search needs)
     returns)

@@ -20,9 +20,6 @@ loop-holds c =
     let a = start .args in
     fields-start (a .count) (a .text .now) (a .at) (a .out .now) (a .offsets .now) (a .present .now) (a .start) (start .pre .0) (start .pre .1 .0)
 
-field-at-requires : tie.Need-field-at-requires Inv-loop μ-loop
-field-at-requires c κs = search needs
-
 put-entry-requires : tie.Need-put-entry-requires Inv-loop μ-loop
 put-entry-requires c κs =
     let f = c .before .before .before in
@@ -38,12 +35,6 @@ put-entry-requires c κs =
     let present-fit = start .pre .1 .1 .1 in
     let more = f .before .loop-test .taken in
     (rw (f .field-at .ensures) (w .ordered, let on = w .onward in let end = w .ends in omega arith), (omega arith, omega arith))
-
-add-i : tie.Need-add-i Inv-loop μ-loop
-add-i c = search needs
-
-loop-less : tie.Need-loop-less Inv-loop μ-loop
-loop-less c = search needs
 
 loop-again : tie.Need-loop-again Inv-loop μ-loop
 loop-again c =
@@ -75,16 +66,5 @@ returns c =
 pub put-fields-spec : {M : Type 1} → statement M
 put-fields-spec =
     tie.close
-    (tie.spec
-    Inv-loop
-    μ-loop
-    loop-holds
-    field-at-requires
-    put-entry-requires
-    add-i
-    loop-less
-    loop-again
-    same-length
-    same-length-2
-    same-length-3
-    returns)
+    (tie.spec Inv-loop μ-loop loop-holds (λ c κs. search needs) put-entry-requires (λ c. search needs)
+    (λ c. search needs) loop-again same-length same-length-2 same-length-3 returns)

@@ -13,20 +13,8 @@ Inv-loop raw out₀ at next₀ i₀ out next i = Unquoting raw out₀ at out nex
 abbrev μ-loop : tie.MeasureT-loop
 μ-loop raw out₀ at next₀ i₀ out next i = length raw - i
 
-least-requires : tie.Need-least-requires Inv-loop μ-loop
-least-requires c κs = search needs
-
 loop-holds : tie.Need-loop-holds Inv-loop μ-loop
 loop-holds c = let a = c .before .before .before .args in unquoting-starts (a .raw .now) (a .out .now) (a .at) (c .least .result) (c .least .ensures)
-
-shared-slice-read-put-byte : tie.Need-shared-slice-read-put-byte Inv-loop μ-loop
-shared-slice-read-put-byte c = search needs
-
-put-byte-requires : tie.Need-put-byte-requires Inv-loop μ-loop
-put-byte-requires c κs = search needs
-
-pair-step-requires : tie.Need-pair-step-requires Inv-loop μ-loop
-pair-step-requires c κs = search needs
 
 add-i : tie.Need-add-i Inv-loop μ-loop
 add-i c =
@@ -75,16 +63,5 @@ returns c =
 pub put-unquoted-spec : {M : Type 1} → statement M
 put-unquoted-spec =
     tie.close
-    (tie.spec
-    Inv-loop
-    μ-loop
-    least-requires
-    loop-holds
-    shared-slice-read-put-byte
-    put-byte-requires
-    pair-step-requires
-    add-i
-    loop-less
-    loop-again
-    same-length
-    returns)
+    (tie.spec Inv-loop μ-loop (λ c κs. search needs) loop-holds (λ c. search needs) (λ c κs. search needs)
+    (λ c κs. search needs) add-i loop-less loop-again same-length returns)

@@ -2,30 +2,20 @@
 -- fault. Assumes nothing.
 use Prim.Native.Nat.{_-_}
 use borrow.Author.Needs.{needs}
-use Rattle.sheet_records.proofs.Records.{InRecord, record-starts, record-stops, record-goes-on, record-ends}
+use Rattle.sheet_fields.specs.Runs.{isSound}
+use Rattle.sheet_fields.proofs.Faults.{InRecord, record-starts}
+use Rattle.sheet_records.proofs.Records.{record-stops, record-goes-on, record-ends}
 use Rattle.sheet_records.proofs.check_record.Statement.{statement}
 use Rattle.sheet_records.proofs.check_record.Tie as tie
 
 abbrev Inv-loop : tie.InvT-loop
-Inv-loop text at width next₀ i₀ next i = InRecord width text at next i
+Inv-loop text at width next₀ i₀ next i = InRecord isSound width text at next i
 
 abbrev μ-loop : tie.MeasureT-loop
 μ-loop text at width next₀ i₀ next i = width - i
 
 loop-holds : tie.Need-loop-holds Inv-loop μ-loop
-loop-holds c = let a = c .before .args in record-starts (a .width) (a .text .now) (a .at)
-
-field-at-requires : tie.Need-field-at-requires Inv-loop μ-loop
-field-at-requires c κs = search needs
-
-add-number : tie.Need-add-number Inv-loop μ-loop
-add-number c = search needs
-
-sub-field-fault : tie.Need-sub-field-fault Inv-loop μ-loop
-sub-field-fault c = search needs
-
-field-fault-requires : tie.Need-field-fault-requires Inv-loop μ-loop
-field-fault-requires c κs = search needs
+loop-holds c = let a = c .before .args in record-starts isSound (a .width) (a .text .now) (a .at)
 
 returns : tie.Need-returns Inv-loop μ-loop
 returns c =
@@ -35,9 +25,6 @@ returns c =
     let f = c .before .before .field-at in
     let n = c .before .field-fault in
     record-stops (a .width) (a .text .now) (a .at) (s .next) (s .i) (s .inv) (c .before .before .before .loop-test .taken) (f .result) (f .ensures) (n .result) (n .ensures) (c .if1 .taken)
-
-loop-less : tie.Need-loop-less Inv-loop μ-loop
-loop-less c = search needs
 
 loop-again : tie.Need-loop-again Inv-loop μ-loop
 loop-again c =
@@ -58,15 +45,5 @@ returns-2 c =
 pub check-record-spec : {M : Type 1} → statement M
 check-record-spec =
     tie.close
-    (tie.spec
-    Inv-loop
-    μ-loop
-    loop-holds
-    field-at-requires
-    add-number
-    sub-field-fault
-    field-fault-requires
-    returns
-    loop-less
-    loop-again
-    returns-2)
+    (tie.spec Inv-loop μ-loop loop-holds (λ c κs. search needs) (λ c. search needs) (λ c. search needs)
+    (λ c κs. search needs) returns (λ c. search needs) loop-again returns-2)

@@ -15,9 +15,6 @@ abbrev μ-loop : tie.MeasureT-loop
 loop-holds : tie.Need-loop-holds Inv-loop μ-loop
 loop-holds c = let a = c .before .args in table-starts (a .width) (a .most) (a .text .now)
 
-add-line : tie.Need-add-line Inv-loop μ-loop
-add-line c = search needs
-
 returns : tie.Need-returns Inv-loop μ-loop
 returns c =
     let turn = c .before in
@@ -25,9 +22,6 @@ returns c =
     let a = l .before .before .args in
     let s = l .loop in
     table-too-long (a .width) (a .most) (a .text .now) (s .next) (s .records) (s .inv) (turn .loop-test .taken) (c .if1 .taken)
-
-check-record-requires : tie.Need-check-record-requires Inv-loop μ-loop
-check-record-requires c κs = search needs
 
 returns-2 : tie.Need-returns-2 Inv-loop μ-loop
 returns-2 c =
@@ -37,9 +31,6 @@ returns-2 c =
     let a = l .before .before .args in
     let s = l .loop in
     table-stops (a .width) (a .most) (a .text .now) (s .next) (s .records) (s .inv) (turn .loop-test .taken) (r .before .if1 .left) (r .check-record .result) (r .check-record .ensures) (c .if2 .taken)
-
-loop-less : tie.Need-loop-less Inv-loop μ-loop
-loop-less c = search needs
 
 loop-again : tie.Need-loop-again Inv-loop μ-loop
 loop-again c =
@@ -60,14 +51,5 @@ returns-3 c =
 pub check-table-spec : {M : Type 1} → statement M
 check-table-spec =
     tie.close
-    (tie.spec
-    Inv-loop
-    μ-loop
-    loop-holds
-    add-line
-    returns
-    check-record-requires
-    returns-2
-    loop-less
-    loop-again
-    returns-3)
+    (tie.spec Inv-loop μ-loop loop-holds (λ c. search needs) returns (λ c κs. search needs) returns-2
+    (λ c. search needs) loop-again returns-3)

@@ -1,7 +1,9 @@
 -- `sheet_records::place_after` meets its contract. The loop's invariant is `Passing`. Assumes nothing.
 use Prim.Native.Nat.{_-_}
+use mathlib.Core.Path.{ap}
 use borrow.Author.Needs.{needs}
-use Rattle.sheet_records.proofs.Passing.{Passing, passing-starts, passing-goes-on, passing-ends}
+use Rattle.sheet_fields.specs.declared.Field.{Field}
+use Rattle.sheet_fields.proofs.Passing.{Passing, passing-starts, passing-goes-on, passing-ends}
 use Rattle.sheet_records.proofs.place_after.Statement.{statement}
 use Rattle.sheet_records.proofs.place_after.Tie as tie
 
@@ -14,21 +16,12 @@ abbrev μ-loop : tie.MeasureT-loop
 loop-holds : tie.Need-loop-holds Inv-loop μ-loop
 loop-holds c = let a = c .before .args in passing-starts (a .count) (a .text .now) (a .at)
 
-field-at-requires : tie.Need-field-at-requires Inv-loop μ-loop
-field-at-requires c κs = search needs
-
-add-i : tie.Need-add-i Inv-loop μ-loop
-add-i c = search needs
-
-loop-less : tie.Need-loop-less Inv-loop μ-loop
-loop-less c = search needs
-
 loop-again : tie.Need-loop-again Inv-loop μ-loop
 loop-again c =
     let l = c .before .before in
     let a = l .before .before .args in
     let s = l .loop in
-    passing-goes-on (a .count) (a .text .now) (a .at) (s .next) (s .i) (s .inv) (c .before .loop-test .taken) (c .field-at .result) (c .field-at .ensures)
+    passing-goes-on (a .count) (a .text .now) (a .at) (s .next) (s .i) (s .inv) (c .before .loop-test .taken) (c .field-at .result .next) (ap (λ (f : Field). f .next) (c .field-at .ensures))
 
 returns : tie.Need-returns Inv-loop μ-loop
 returns c =
@@ -40,4 +33,5 @@ returns c =
 pub place-after-spec : {M : Type 1} → statement M
 place-after-spec =
     tie.close
-    (tie.spec Inv-loop μ-loop loop-holds field-at-requires add-i loop-less loop-again returns)
+    (tie.spec Inv-loop μ-loop loop-holds (λ c κs. search needs) (λ c. search needs) (λ c. search needs)
+    loop-again returns)

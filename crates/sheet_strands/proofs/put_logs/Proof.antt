@@ -7,17 +7,11 @@ use Rattle.sheet_strands.proofs.Logs.{logs-put, logs-long}
 use Rattle.sheet_strands.proofs.put_logs.Statement.{statement}
 use Rattle.sheet_strands.proofs.put_logs.Tie as tie
 
-slice-write-logs : tie.Need-slice-write-logs
-slice-write-logs c = search needs
-
 sub-put-logarithms : tie.Need-sub-put-logarithms
 sub-put-logarithms c = simp length-set (omega arith)
 
 part-put-logarithms-start : tie.Need-part-put-logarithms-start
 part-put-logarithms-start c = simp length-set (omega arith)
-
-part-put-logarithms-end : tie.Need-part-put-logarithms-end
-part-put-logarithms-end c = search needs
 
 put-logarithms-requires : tie.Need-put-logarithms-requires
 put-logarithms-requires c κs = simp (length-take, length-drop, length-set) (omega arith)
@@ -40,11 +34,5 @@ returns c =
 pub put-logs-spec : {M : Type 1} → statement M
 put-logs-spec =
     tie.close
-    (tie.spec
-    slice-write-logs
-    sub-put-logarithms
-    part-put-logarithms-start
-    part-put-logarithms-end
-    put-logarithms-requires
-    same-length
-    returns)
+    (tie.spec (λ c. search needs) sub-put-logarithms part-put-logarithms-start (λ c. search needs)
+    put-logarithms-requires same-length returns)

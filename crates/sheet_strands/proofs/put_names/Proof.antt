@@ -8,25 +8,13 @@ use Rattle.sheet_records.specs.Tables.{columns}
 use Rattle.sheet_names.specs.Appended.{flagOf}
 use Rattle.sheet_names.proofs.Appending.{appended-offsets, appended-present}
 use Rattle.sheet_strands.specs.Strands.{namesOf}
-use Rattle.sheet_strands.proofs.Filling.{filled-after}
+use Rattle.sheet_names.proofs.FrontFilling.{filled-after}
 use mathlib.Core.Path.{refl, _∙_}
 use Rattle.sheet_strands.proofs.put_names.Statement.{statement}
 use Rattle.sheet_strands.proofs.put_names.Tie as tie
 
-slice-aggregate-put-text : tie.Need-slice-aggregate-put-text
-slice-aggregate-put-text c = search needs
-
-put-text-requires : tie.Need-put-text-requires
-put-text-requires c κs = search needs
-
-slice-write-offsets : tie.Need-slice-write-offsets
-slice-write-offsets c = search needs
-
 slice-write-offsets-2 : tie.Need-slice-write-offsets-2
 slice-write-offsets-2 c = simp length-set (omega arith)
-
-slice-write-present : tie.Need-slice-write-present
-slice-write-present c = search needs
 
 put-columns-requires : tie.Need-put-columns-requires
 put-columns-requires c κs =
@@ -34,9 +22,6 @@ put-columns-requires c κs =
     let start = put .before .before .before .before .before .before .before in
     let pre = start .pre in
     (omega arith, (put-within (put .put-text .ensures), (simp length-set (omega arith), simp length-set (omega arith))))
-
-same-length : tie.Need-same-length
-same-length c = search needs
 
 same-length-2 : tie.Need-same-length-2
 same-length-2 c = appended-offsets (c .before .before .before .before .before .before .put-columns .ensures) ∙ simp length-set
@@ -55,14 +40,5 @@ returns c =
 pub put-names-spec : {M : Type 1} → statement M
 put-names-spec =
     tie.close
-    (tie.spec
-    slice-aggregate-put-text
-    put-text-requires
-    slice-write-offsets
-    slice-write-offsets-2
-    slice-write-present
-    put-columns-requires
-    same-length
-    same-length-2
-    same-length-3
-    returns)
+    (tie.spec (λ c. search needs) (λ c κs. search needs) (λ c. search needs) slice-write-offsets-2
+    (λ c. search needs) put-columns-requires (λ c. search needs) same-length-2 same-length-3 returns)

@@ -1,18 +1,24 @@
 -- `put_sheet` meets its contract: the invariant is that what is left of the sheet ends it. Assumes nothing.
-use Prim.Native.Nat.{_+_, _*_}
+use Prim.Native.Nat.{_*_}
 use mathlib.Core.Bool.{true}
 use native.Mathlib.Omega.{arith}
 use Rattle.bay_lists.specs.Lists.{constraints}
 use Rattle.sheet_text.proofs.Parts.{row-within}
-use Rattle.sheet_text.proofs.Turns.{has-lists, fewer-lists, Sheet, sheet-starts, sheet-goes-on, sheet-ends}
+use Rattle.sheet_text.proofs.Turns.{shaped-count, Sheet, sheet-starts, sheet-goes-on, sheet-ends}
 use Rattle.sheet_text.proofs.put_sheet.Statement.{statement}
 use Rattle.sheet_text.proofs.put_sheet.Tie as tie
 
 abbrev Inv-loop : tie.InvT-loop
-Inv-loop rows columns offsets tiles text₀ next₀ bay₀ left₀ text next bay left = Sheet (constraints true offsets tiles) rows columns text₀ text next bay left
+Inv-loop rows columns offsets tiles text₀ bays next₀ bay₀ left₀ text next bay left = Sheet (constraints true offsets tiles) rows columns text₀ text next bay left
 
 abbrev μ-loop : tie.MeasureT-loop
-μ-loop rows columns offsets tiles text₀ next₀ bay₀ left₀ text next bay left = left
+μ-loop rows columns offsets tiles text₀ bays next₀ bay₀ left₀ text next bay left = left
+
+mul-bays : tie.Need-mul-bays Inv-loop μ-loop
+mul-bays c =
+    let start = c .before .before .before in
+    let a = start .args in
+    omega (arith, shaped-count (a .rows * a .columns) (a .offsets .now) (a .tiles .now) (start .pre), start .good .1 .1 .0 .0)
 
 loop-holds : tie.Need-loop-holds Inv-loop μ-loop
 loop-holds c =
@@ -25,9 +31,7 @@ put-record-requires c κs =
     let l = turn .before in
     let start = l .before .before .before .before in
     let a = start .args in
-    let within = row-within (a .rows) (a .columns) (l .loop .bay) (l .loop .left) (l .loop .inv .bays) (turn .loop-test .taken) in
-    let all = has-lists (a .offsets .now) (a .tiles .now) (a .rows * a .columns) (start .pre) in
-    (fewer-lists (a .offsets .now) (a .tiles .now) (a .rows * a .columns) (l .loop .bay + a .columns) all within, l .loop .inv .ending .within)
+    (start .pre, (row-within (a .rows) (a .columns) (l .loop .bay) (l .loop .left) (l .loop .inv .bays) (turn .loop-test .taken), l .loop .inv .ending .within))
 
 add-bay : tie.Need-add-bay Inv-loop μ-loop
 add-bay c =
@@ -36,8 +40,7 @@ add-bay c =
     let start = l .before .before .before .before in
     let a = start .args in
     let within = row-within (a .rows) (a .columns) (l .loop .bay) (l .loop .left) (l .loop .inv .bays) (turn .loop-test .taken) in
-    let all = has-lists (a .offsets .now) (a .tiles .now) (a .rows * a .columns) (start .pre) in
-    omega (arith, all .enough, start .good .1 .1 .0 .0)
+    omega (arith, shaped-count (a .rows * a .columns) (a .offsets .now) (a .tiles .now) (start .pre), start .good .1 .1 .0 .0)
 
 sub-left : tie.Need-sub-left Inv-loop μ-loop
 sub-left c = let turn = c .before .before .before .before in turn .loop-test .taken
@@ -68,6 +71,7 @@ put-sheet-spec =
     (tie.spec
     Inv-loop
     μ-loop
+    mul-bays
     loop-holds
     put-record-requires
     add-bay

@@ -9,18 +9,6 @@ use borrow.Author.Needs.{needs}
 use Rattle.text_decimals.proofs.after_the_sign.Statement.{statement}
 use Rattle.text_decimals.proofs.after_the_sign.Tie as tie
 
-sub-signed : tie.Need-sub-signed
-sub-signed c = search needs
-
-part-signed-start : tie.Need-part-signed-start
-part-signed-start c = search needs
-
-part-signed-end : tie.Need-part-signed-end
-part-signed-end c = search needs
-
-signed-requires : tie.Need-signed-requires
-signed-requires c κs = search needs
-
 returns : tie.Need-returns
 returns c =
     let start = c .before .before .before in
@@ -28,4 +16,5 @@ returns c =
 
 pub after-the-sign-spec : {M : Type 1} → statement M
 after-the-sign-spec =
-    tie.close (tie.spec sub-signed part-signed-start part-signed-end signed-requires returns)
+    tie.close
+    (tie.spec (λ c. search needs) (λ c. search needs) (λ c. search needs) (λ c κs. search needs) returns)

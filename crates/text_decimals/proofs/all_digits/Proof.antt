@@ -11,22 +11,10 @@ use borrow.Author.Needs.{needs}
 use Rattle.text_decimals.proofs.all_digits.Statement.{statement}
 use Rattle.text_decimals.proofs.all_digits.Tie as tie
 
-digits-after-requires : tie.Need-digits-after-requires
-digits-after-requires c κs = search needs
-
 returns : tie.Need-returns
 returns c =
     let a = c .before .before .before .args in
     c .digits-after .ensures ∙ sym (ap (λ (l : List ℕ). digitsAfter 0 l) (no-places (a .text .now) (a .point) (c .before .if1 .taken)))
-
-whole-digits-requires : tie.Need-whole-digits-requires
-whole-digits-requires c κs = search needs
-
-enum-known-n : tie.Need-enum-known-n
-enum-known-n c = search needs
-
-add-digits-from : tie.Need-add-digits-from
-add-digits-from c = search needs
 
 digits-from-requires : tie.Need-digits-from-requires
 digits-from-requires c κs =
@@ -57,13 +45,5 @@ returns-3 c =
 pub all-digits-spec : {M : Type 1} → statement M
 all-digits-spec =
     tie.close
-    (tie.spec
-    digits-after-requires
-    returns
-    whole-digits-requires
-    enum-known-n
-    add-digits-from
-    digits-from-requires
-    enum-told
-    returns-2
-    returns-3)
+    (tie.spec (λ c κs. search needs) returns (λ c κs. search needs) (λ c. search needs) (λ c. search needs)
+    digits-from-requires enum-told returns-2 returns-3)

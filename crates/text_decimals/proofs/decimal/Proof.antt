@@ -9,18 +9,9 @@ use Rattle.text_decimals.proofs.decimal.Tie as tie
 returns : tie.Need-returns
 returns c = no-bytes (c .before .before .args .text .now) (c .if1 .taken)
 
-shared-slice-read-if2 : tie.Need-shared-slice-read-if2
-shared-slice-read-if2 c = search needs
-
-after-the-sign-requires : tie.Need-after-the-sign-requires
-after-the-sign-requires c κs = search needs
-
 returns-2 : tie.Need-returns-2
 unfolding decimalOf
 returns-2 c = rw (eq-eqb _ 45 (c .before .if2 .taken)) (c .after-the-sign .ensures)
-
-signed-requires : tie.Need-signed-requires
-signed-requires c κs = search needs
 
 returns-3 : tie.Need-returns-3
 unfolding decimalOf
@@ -29,10 +20,4 @@ returns-3 c = rw (ne-eqb _ 45 (c .before .if2 .left)) (c .signed .ensures)
 pub decimal-spec : {M : Type 1} → statement M
 decimal-spec =
     tie.close
-    (tie.spec
-    returns
-    shared-slice-read-if2
-    after-the-sign-requires
-    returns-2
-    signed-requires
-    returns-3)
+    (tie.spec returns (λ c. search needs) (λ c κs. search needs) returns-2 (λ c κs. search needs) returns-3)

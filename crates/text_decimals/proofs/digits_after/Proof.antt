@@ -16,12 +16,6 @@ abbrev μ-loop : tie.MeasureT-loop
 loop-holds : tie.Need-loop-holds Inv-loop μ-loop
 loop-holds c = read-starts (c .before .args .n) (c .before .args .digits .now) (c .before .pre)
 
-shared-slice-read-digit : tie.Need-shared-slice-read-digit Inv-loop μ-loop
-shared-slice-read-digit c = search needs
-
-digit-requires : tie.Need-digit-requires Inv-loop μ-loop
-digit-requires c κs = search needs
-
 returns : tie.Need-returns Inv-loop μ-loop
 returns c =
     let read = c .before in
@@ -44,12 +38,6 @@ returns-2 c =
     let a = l .before .before .args in
     read-passes (a .n) (a .digits .now) (l .loop .worth) (l .loop .i) (l .loop .inv) (read .digit .result) (turn .loop-test .taken) (read .digit .ensures .0) (c .if2 .taken)
 
-add-i : tie.Need-add-i Inv-loop μ-loop
-add-i c = search needs
-
-loop-less : tie.Need-loop-less Inv-loop μ-loop
-loop-less c = search needs
-
 loop-again : tie.Need-loop-again Inv-loop μ-loop
 loop-again c =
     let read = c .before .before in
@@ -64,17 +52,5 @@ returns-3 c = let l = c .before in let a = l .before .before .args in read-ends 
 pub digits-after-spec : {M : Type 1} → statement M
 digits-after-spec =
     tie.close
-    (tie.spec
-    Inv-loop
-    μ-loop
-    loop-holds
-    shared-slice-read-digit
-    digit-requires
-    returns
-    mul-worth
-    add-worth
-    returns-2
-    add-i
-    loop-less
-    loop-again
-    returns-3)
+    (tie.spec Inv-loop μ-loop loop-holds (λ c. search needs) (λ c κs. search needs) returns mul-worth
+    add-worth returns-2 (λ c. search needs) (λ c. search needs) loop-again returns-3)

@@ -8,18 +8,6 @@ use borrow.Author.Needs.{needs}
 use Rattle.text_decimals.proofs.digits_from.Statement.{statement}
 use Rattle.text_decimals.proofs.digits_from.Tie as tie
 
-sub-digits-after : tie.Need-sub-digits-after
-sub-digits-after c = search needs
-
-part-digits-after-start : tie.Need-part-digits-after-start
-part-digits-after-start c = search needs
-
-part-digits-after-end : tie.Need-part-digits-after-end
-part-digits-after-end c = search needs
-
-digits-after-requires : tie.Need-digits-after-requires
-digits-after-requires c κs = search needs
-
 returns : tie.Need-returns
 returns c =
     let start = c .before .before .before in
@@ -29,9 +17,4 @@ returns c =
 pub digits-from-spec : {M : Type 1} → statement M
 digits-from-spec =
     tie.close
-    (tie.spec
-    sub-digits-after
-    part-digits-after-start
-    part-digits-after-end
-    digits-after-requires
-    returns)
+    (tie.spec (λ c. search needs) (λ c. search needs) (λ c. search needs) (λ c κs. search needs) returns)

@@ -6,19 +6,15 @@ use borrow.Author.Needs.{needs}
 use Rattle.text_decimals.proofs.logarithm.Statement.{statement}
 use Rattle.text_decimals.proofs.logarithm.Tie as tie
 
-is-minus-infinity-requires : tie.Need-is-minus-infinity-requires
-is-minus-infinity-requires c κs = search needs
-
 returns : tie.Need-returns
 unfolding logarithmOf ofBits div neg
 returns c = rw (sym (c .before .is-minus-infinity .ensures) ∙ c .if1 .taken)
-
-decimal-requires : tie.Need-decimal-requires
-decimal-requires c κs = search needs
 
 returns-2 : tie.Need-returns-2
 unfolding logarithmOf
 returns-2 c = rw (sym (c .before .before .is-minus-infinity .ensures) ∙ c .before .if1 .left) (c .decimal .ensures)
 
 pub logarithm-spec : {M : Type 1} → statement M
-logarithm-spec = tie.close (tie.spec is-minus-infinity-requires returns decimal-requires returns-2)
+logarithm-spec =
+    tie.close
+    (tie.spec (λ c κs. search needs) returns (λ c κs. search needs) returns-2)

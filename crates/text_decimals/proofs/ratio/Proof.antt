@@ -8,12 +8,6 @@ use borrow.Author.Needs.{needs}
 use Rattle.text_decimals.proofs.ratio.Statement.{statement}
 use Rattle.text_decimals.proofs.ratio.Tie as tie
 
-quotient-requires : tie.Need-quotient-requires
-quotient-requires c κs = search needs
-
-quotient-requires-2 : tie.Need-quotient-requires-2
-quotient-requires-2 c κs = search needs
-
 returns : tie.Need-returns
 unfolding decimal
 returns c = rw (c .before .if1 .taken, c .quotient .ensures) (sym (round-mirror binary64 (c .before .before .args .n) (10 ^ c .before .before .args .k)))
@@ -22,4 +16,4 @@ returns-2 : tie.Need-returns-2
 returns-2 c = rw (c .before .if1 .left) (c .quotient2 .ensures)
 
 pub ratio-spec : {M : Type 1} → statement M
-ratio-spec = tie.close (tie.spec quotient-requires quotient-requires-2 returns returns-2)
+ratio-spec = tie.close (tie.spec (λ c κs. search needs) (λ c κs. search needs) returns returns-2)

@@ -7,20 +7,11 @@ use borrow.Author.Needs.{needs}
 use Rattle.text_decimals.proofs.signed.Statement.{statement}
 use Rattle.text_decimals.proofs.signed.Tie as tie
 
-whole-length-requires : tie.Need-whole-length-requires
-whole-length-requires c κs = search needs
-
-is-formed-requires : tie.Need-is-formed-requires
-is-formed-requires c κs = search needs
-
 returns : tie.Need-returns
 returns c =
     let call = c .before in
     let a = call .before .before .before .args in
     not-formed (a .negative) (a .text .now) (sym (call .is-formed .ensures) ∙ not-true _ (c .if1 .taken))
-
-places-after-requires : tie.Need-places-after-requires
-places-after-requires c κs = search needs
 
 returns-2 : tie.Need-returns-2
 returns-2 c =
@@ -38,9 +29,6 @@ all-digits-requires c κs =
     let same = first .whole-length .ensures in
     omega arith
 
-over-ten-requires : tie.Need-over-ten-requires
-over-ten-requires c κs = search needs
-
 returns-3 : tie.Need-returns-3
 returns-3 c =
     let tested = c .before .before in
@@ -55,12 +43,5 @@ returns-3 c =
 pub signed-spec : {M : Type 1} → statement M
 signed-spec =
     tie.close
-    (tie.spec
-    whole-length-requires
-    is-formed-requires
-    returns
-    places-after-requires
-    returns-2
-    all-digits-requires
-    over-ten-requires
-    returns-3)
+    (tie.spec (λ c κs. search needs) (λ c κs. search needs) returns (λ c κs. search needs) returns-2
+    all-digits-requires (λ c κs. search needs) returns-3)

@@ -8,11 +8,7 @@ use Rattle.text_decimals.proofs.whole_digits.Tie as tie
 slice-aggregate-digits-after : tie.Need-slice-aggregate-digits-after
 slice-aggregate-digits-after c = sym (length-take-le (c .before .before .args .point) (c .before .before .args .text .now) (c .before .before .pre))
 
-digits-after-requires : tie.Need-digits-after-requires
-digits-after-requires c κs = search needs
-
-returns : tie.Need-returns
-returns c = search needs
-
 pub whole-digits-spec : {M : Type 1} → statement M
-whole-digits-spec = tie.close (tie.spec slice-aggregate-digits-after digits-after-requires returns)
+whole-digits-spec =
+    tie.close
+    (tie.spec slice-aggregate-digits-after (λ c κs. search needs) (λ c. search needs))

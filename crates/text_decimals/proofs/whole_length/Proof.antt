@@ -1,48 +1,12 @@
 -- `text_decimals::whole_length` meets its contract. Assumes nothing.
-use Prim.Native.Nat.{_-_}
-use lib.ListN.{length}
+use mathlib.Core.Path.{_∙_}
 use borrow.Author.Needs.{needs}
-use Rattle.text_decimals.proofs.Digits.{NoPointBefore, at-the-start, no-point, at-the-point, past-a-digit}
+use Rattle.text_decimals.proofs.Digits.{point-found}
 use Rattle.text_decimals.proofs.whole_length.Statement.{statement}
 use Rattle.text_decimals.proofs.whole_length.Tie as tie
 
-abbrev Inv-loop : tie.InvT-loop
-Inv-loop text i₀ i = NoPointBefore text i
-
-abbrev μ-loop : tie.MeasureT-loop
-μ-loop text i₀ i = length text - i
-
-loop-holds : tie.Need-loop-holds Inv-loop μ-loop
-loop-holds c = at-the-start (c .args .text .now)
-
-shared-slice-read-if1 : tie.Need-shared-slice-read-if1 Inv-loop μ-loop
-shared-slice-read-if1 c = search needs
-
-returns : tie.Need-returns Inv-loop μ-loop
-returns c = let turn = c .before .before in let l = turn .before in at-the-point (l .before .args .text .now) (l .loop .i) (l .loop .inv) (turn .loop-test .taken) (c .if1 .taken)
-
-add-i : tie.Need-add-i Inv-loop μ-loop
-add-i c = search needs
-
-loop-less : tie.Need-loop-less Inv-loop μ-loop
-loop-less c = search needs
-
-loop-again : tie.Need-loop-again Inv-loop μ-loop
-loop-again c = let turn = c .before .before in let l = turn .before in past-a-digit (l .before .args .text .now) (l .loop .i) (l .loop .inv) (turn .loop-test .taken) (c .if1 .left)
-
-returns-2 : tie.Need-returns-2 Inv-loop μ-loop
-returns-2 c = let l = c .before in no-point (l .before .args .text .now) (l .loop .i) (l .loop .inv) (c .loop-test .left)
+returns : tie.Need-returns
+returns c = c .find .ensures .0 ∙ point-found (c .before .before .args .text .now)
 
 pub whole-length-spec : {M : Type 1} → statement M
-whole-length-spec =
-    tie.close
-    (tie.spec
-    Inv-loop
-    μ-loop
-    loop-holds
-    shared-slice-read-if1
-    returns
-    add-i
-    loop-less
-    loop-again
-    returns-2)
+whole-length-spec = tie.close (tie.spec (λ c κs. search needs) returns)

@@ -5,22 +5,10 @@ use borrow.Author.Needs.{needs}
 use Rattle.text_plain.proofs.character_length.Statement.{statement}
 use Rattle.text_plain.proofs.character_length.Tie as tie
 
-byte-at-requires : tie.Need-byte-at-requires
-byte-at-requires c κs = search needs
-
-is-alone-requires : tie.Need-is-alone-requires
-is-alone-requires c κs = search needs
-
 returns : tie.Need-returns
 returns c =
     let f = c .before .before in
     one-byte (f .before .before .args .text .now) (f .byte-at .ensures) (sym (c .before .is-alone .ensures) ∙ c .if1 .taken)
-
-byte-at-requires-2 : tie.Need-byte-at-requires-2
-byte-at-requires-2 c κs = search needs
-
-is-two-requires : tie.Need-is-two-requires
-is-two-requires c κs = search needs
 
 returns-2 : tie.Need-returns-2
 returns-2 c =
@@ -29,12 +17,6 @@ returns-2 c =
     let f = p .before .before in
     two-bytes (f .before .before .args .text .now) (f .byte-at .ensures) (sym (p .before .is-alone .ensures) ∙ p .if1 .left)
     (g .byte-at2 .ensures) (sym (c .before .is-two .ensures) ∙ c .if2 .taken)
-
-byte-at-requires-3 : tie.Need-byte-at-requires-3
-byte-at-requires-3 c κs = search needs
-
-is-three-requires : tie.Need-is-three-requires
-is-three-requires c κs = search needs
 
 returns-3 : tie.Need-returns-3
 returns-3 c =
@@ -46,12 +28,6 @@ returns-3 c =
     three-bytes (f .before .before .args .text .now) (f .byte-at .ensures) (sym (p .before .is-alone .ensures) ∙ p .if1 .left)
     (g .byte-at2 .ensures) (sym (q .before .is-two .ensures) ∙ q .if2 .left)
     (h .byte-at3 .ensures) (sym (c .before .is-three .ensures) ∙ c .if3 .taken)
-
-byte-at-requires-4 : tie.Need-byte-at-requires-4
-byte-at-requires-4 c κs = search needs
-
-is-four-requires : tie.Need-is-four-requires
-is-four-requires c κs = search needs
 
 returns-4 : tie.Need-returns-4
 returns-4 c =
@@ -84,17 +60,6 @@ returns-5 c =
 pub character-length-spec : {M : Type 1} → statement M
 character-length-spec =
     tie.close
-    (tie.spec
-    byte-at-requires
-    is-alone-requires
-    returns
-    byte-at-requires-2
-    is-two-requires
-    returns-2
-    byte-at-requires-3
-    is-three-requires
-    returns-3
-    byte-at-requires-4
-    is-four-requires
-    returns-4
-    returns-5)
+    (tie.spec (λ c κs. search needs) (λ c κs. search needs) returns (λ c κs. search needs)
+    (λ c κs. search needs) returns-2 (λ c κs. search needs) (λ c κs. search needs) returns-3
+    (λ c κs. search needs) (λ c κs. search needs) returns-4 returns-5)

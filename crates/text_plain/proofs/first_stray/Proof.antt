@@ -19,15 +19,6 @@ loop-holds c = walk-starts _
 sub-character-length : tie.Need-sub-character-length Inv-loop μ-loop
 sub-character-length c = omega arith
 
-part-character-length-start : tie.Need-part-character-length-start Inv-loop μ-loop
-part-character-length-start c = search needs
-
-part-character-length-end : tie.Need-part-character-length-end Inv-loop μ-loop
-part-character-length-end c = search needs
-
-character-length-requires : tie.Need-character-length-requires Inv-loop μ-loop
-character-length-requires c κs = search needs
-
 returns : tie.Need-returns Inv-loop μ-loop
 returns c =
     let l = c .before .before .before .before in
@@ -57,16 +48,5 @@ returns-2 c = let l = c .before in walk-ends (l .before .before .args .text .now
 pub first-stray-spec : {M : Type 1} → statement M
 first-stray-spec =
     tie.close
-    (tie.spec
-    Inv-loop
-    μ-loop
-    loop-holds
-    sub-character-length
-    part-character-length-start
-    part-character-length-end
-    character-length-requires
-    returns
-    add-i
-    loop-less
-    loop-again
-    returns-2)
+    (tie.spec Inv-loop μ-loop loop-holds sub-character-length (λ c. search needs) (λ c. search needs)
+    (λ c κs. search needs) returns add-i loop-less loop-again returns-2)

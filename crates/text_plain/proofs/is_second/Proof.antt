@@ -6,43 +6,25 @@ use borrow.Author.Needs.{needs}
 use Rattle.text_plain.proofs.is_second.Statement.{statement}
 use Rattle.text_plain.proofs.is_second.Tie as tie
 
-is-between-requires : tie.Need-is-between-requires
-is-between-requires c κs = search needs
-
 returns : tie.Need-returns
 unfolding isSecond
 returns c = c .is-between .ensures ∙ rw (c .before .if1 .taken)
-
-is-between-requires-2 : tie.Need-is-between-requires-2
-is-between-requires-2 c κs = search needs
 
 returns-2 : tie.Need-returns-2
 unfolding isSecond
 returns-2 c = c .is-between2 .ensures ∙ rw (c .before .if2 .taken)
 
-is-between-requires-3 : tie.Need-is-between-requires-3
-is-between-requires-3 c κs = search needs
-
 returns-3 : tie.Need-returns-3
 unfolding isSecond
 returns-3 c = c .is-between3 .ensures ∙ rw (c .before .if3 .taken)
-
-is-between-requires-4 : tie.Need-is-between-requires-4
-is-between-requires-4 c κs = search needs
 
 returns-4 : tie.Need-returns-4
 unfolding isSecond
 returns-4 c = c .is-between4 .ensures ∙ rw (c .before .if4 .taken)
 
-is-between-requires-5 : tie.Need-is-between-requires-5
-is-between-requires-5 c κs = search needs
-
 returns-5 : tie.Need-returns-5
 unfolding isSecond
 returns-5 c = c .is-between5 .ensures ∙ rw (c .before .if5 .taken)
-
-is-between-requires-6 : tie.Need-is-between-requires-6
-is-between-requires-6 c κs = search needs
 
 returns-6 : tie.Need-returns-6
 unfolding isSecond
@@ -54,16 +36,5 @@ returns-6 c =
 pub is-second-spec : {M : Type 1} → statement M
 is-second-spec =
     tie.close
-    (tie.spec
-    is-between-requires
-    returns
-    is-between-requires-2
-    returns-2
-    is-between-requires-3
-    returns-3
-    is-between-requires-4
-    returns-4
-    is-between-requires-5
-    returns-5
-    is-between-requires-6
-    returns-6)
+    (tie.spec (λ c κs. search needs) returns (λ c κs. search needs) returns-2 (λ c κs. search needs) returns-3
+    (λ c κs. search needs) returns-4 (λ c κs. search needs) returns-5 (λ c κs. search needs) returns-6)

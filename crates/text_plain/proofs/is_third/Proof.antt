@@ -6,22 +6,13 @@ use borrow.Author.Needs.{needs}
 use Rattle.text_plain.proofs.is_third.Statement.{statement}
 use Rattle.text_plain.proofs.is_third.Tie as tie
 
-is-between-requires : tie.Need-is-between-requires
-is-between-requires c κs = search needs
-
 returns : tie.Need-returns
 unfolding isThird
 returns c = c .is-between .ensures ∙ rw (ne-eqb _ _ (c .before .if1 .taken))
 
-is-between-requires-2 : tie.Need-is-between-requires-2
-is-between-requires-2 c κs = search needs
-
 returns-2 : tie.Need-returns-2
 unfolding isThird
 returns-2 c = c .is-between2 .ensures ∙ rw (eq-eqb _ _ (c .before .before .if1 .left), ne-eqb _ _ (c .before .if2 .taken))
-
-is-between-requires-3 : tie.Need-is-between-requires-3
-is-between-requires-3 c κs = search needs
 
 returns-3 : tie.Need-returns-3
 unfolding isThird
@@ -30,10 +21,4 @@ returns-3 c = c .is-between3 .ensures ∙ rw (eq-eqb _ _ (c .before .before .if1
 pub is-third-spec : {M : Type 1} → statement M
 is-third-spec =
     tie.close
-    (tie.spec
-    is-between-requires
-    returns
-    is-between-requires-2
-    returns-2
-    is-between-requires-3
-    returns-3)
+    (tie.spec (λ c κs. search needs) returns (λ c κs. search needs) returns-2 (λ c κs. search needs) returns-3)

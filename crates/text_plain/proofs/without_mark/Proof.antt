@@ -7,17 +7,11 @@ use borrow.Author.Needs.{needs}
 use Rattle.text_plain.proofs.without_mark.Statement.{statement}
 use Rattle.text_plain.proofs.without_mark.Tie as tie
 
-has-mark-requires : tie.Need-has-mark-requires
-has-mark-requires c κs = search needs
-
 sub-result : tie.Need-sub-result
 sub-result c = let fits = mark-fits (c .before .before .before .args .text .now) (sym (c .before .has-mark .ensures) ∙ c .if1 .taken) in omega arith
 
 part-result-start : tie.Need-part-result-start
 part-result-start c = let fits = mark-fits (c .before .before .before .args .text .now) (sym (c .before .has-mark .ensures) ∙ c .if1 .taken) in search needs
-
-part-result-end : tie.Need-part-result-end
-part-result-end c = search needs
 
 returns : tie.Need-returns
 returns c = let t = c .before in marked (t .before .before .before .args .text .now) (sym (t .before .has-mark .ensures) ∙ t .if1 .taken)
@@ -29,4 +23,4 @@ returns-2 c = rw (sym (c .before .has-mark .ensures) ∙ c .if1 .left)
 pub without-mark-spec : {M : Type 1} → statement M
 without-mark-spec =
     tie.close
-    (tie.spec has-mark-requires sub-result part-result-start part-result-end returns returns-2)
+    (tie.spec (λ c κs. search needs) sub-result part-result-start (λ c. search needs) returns returns-2)

@@ -14,12 +14,6 @@ use Rattle.sheet.proofs.read.read_sheet.Tie as tie
 grid : (c : tie.After-enum-told) → gridVerdict (c .before .before .before .before .before .before .args .rows) (c .before .before .before .before .before .before .args .cols) ≡ passes
 grid c = let a = c .before .before .before .before .before .before .args in passed (gridVerdict (a .rows) (a .cols)) (c .before .before .check-grid .ensures) (c .enum-told .given .1)
 
-check-grid-requires : tie.Need-check-grid-requires
-check-grid-requires c κs = search needs
-
-enum-known-r : tie.Need-enum-known-r
-enum-known-r c = search needs
-
 returns : tie.Need-returns
 returns c =
     let a = c .before .before .before .before .before .before .before .args in
@@ -34,9 +28,6 @@ mul-bays c = let a = c .before .before .before .before .before .before .args in 
 check-sheet-requires : tie.Need-check-sheet-requires
 check-sheet-requires c κs = let a = c .before .before .before .before .before .before .args in sides (a .rows) (a .cols) (grid c)
 
-refused-requires : tie.Need-refused-requires
-refused-requires c κs = search needs
-
 returns-2 : tie.Need-returns-2
 returns-2 c =
     let a = c .before .before .before .before .before .before .before .before .before .before .args in
@@ -47,18 +38,12 @@ returns-2 c =
 add-if2 : tie.Need-add-if2
 add-if2 c = let a = c .before .before .before .before .before .before .before .before .before .args in omega (arith, few-bays (a .rows) (a .cols) (grid (c .before .before .before)))
 
-refused-requires-2 : tie.Need-refused-requires-2
-refused-requires-2 c κs = search needs
-
 returns-3 : tie.Need-returns-3
 returns-3 c =
     let a = c .before .before .before .before .before .before .before .before .before .before .before .args in
     let s = c .before .before .before .before .check-sheet in
     let fault = offsets-fault (a .rows) (a .cols) (a .text .now) (a .offsets .now) (a .tiles .now) (grid (c .before .before .before .before .before)) (s .result) (s .ensures) (c .before .before .if1 .left) (c .before .if2 .taken) in
     refusing (a .rows) (a .cols) (a .text .now) (a .offsets .now) (a .tiles .now) 5 [] fault (c .refused2 .result) (c .refused2 .ensures)
-
-refused-requires-3 : tie.Need-refused-requires-3
-refused-requires-3 c κs = search needs
 
 returns-4 : tie.Need-returns-4
 returns-4 c =
@@ -78,12 +63,6 @@ put-lists-requires c κs =
       ),
     )
 
-same-length : tie.Need-same-length
-same-length c = search needs
-
-same-length-2 : tie.Need-same-length-2
-same-length-2 c = search needs
-
 returns-5 : tie.Need-returns-5
 returns-5 c =
     let a = c .before .before .before .before .before .before .before .before .before .before .before .before .before .before .before .before .before .before .before .args in
@@ -94,21 +73,6 @@ returns-5 c =
 pub read-sheet-spec : {M : Type 1} → statement M
 read-sheet-spec =
     tie.close
-    (tie.spec
-    check-grid-requires
-    enum-known-r
-    returns
-    enum-told
-    mul-bays
-    check-sheet-requires
-    refused-requires
-    returns-2
-    add-if2
-    refused-requires-2
-    returns-3
-    refused-requires-3
-    returns-4
-    put-lists-requires
-    same-length
-    same-length-2
-    returns-5)
+    (tie.spec (λ c κs. search needs) (λ c. search needs) returns enum-told mul-bays check-sheet-requires
+    (λ c κs. search needs) returns-2 add-if2 (λ c κs. search needs) returns-3 (λ c κs. search needs) returns-4
+    put-lists-requires (λ c. search needs) (λ c. search needs) returns-5)

@@ -6,20 +6,11 @@ use borrow.Author.Needs.{needs}
 use Rattle.sheet.proofs.write.fill_text.Statement.{statement}
 use Rattle.sheet.proofs.write.fill_text.Tie as tie
 
-sheet-length-requires : tie.Need-sheet-length-requires
-sheet-length-requires c κs = search needs
-
 returns : tie.Need-returns
 returns c =
     let length = c .before in
     let a = length .before .before .before .before .args in
     no-room (length .sheet-length .result) (sheetBytes (a .rows) (a .columns) (a .offsets .now) (a .tiles .now)) (a .text .now) (length .sheet-length .ensures) (c .if1 .taken)
-
-put-sheet-requires : tie.Need-put-sheet-requires
-put-sheet-requires c κs = search needs
-
-same-length : tie.Need-same-length
-same-length c = search needs
 
 returns-2 : tie.Need-returns-2
 returns-2 c =
@@ -33,4 +24,5 @@ returns-2 c =
 
 pub fill-text-spec : {M : Type 1} → statement M
 fill-text-spec =
-    tie.close (tie.spec sheet-length-requires returns put-sheet-requires same-length returns-2)
+    tie.close
+    (tie.spec (λ c κs. search needs) returns (λ c κs. search needs) (λ c. search needs) returns-2)

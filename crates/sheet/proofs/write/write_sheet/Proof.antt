@@ -6,12 +6,6 @@ use borrow.Author.Needs.{needs}
 use Rattle.sheet.proofs.write.write_sheet.Statement.{statement}
 use Rattle.sheet.proofs.write.write_sheet.Tie as tie
 
-check-lists-requires : tie.Need-check-lists-requires
-check-lists-requires c κs = search needs
-
-enum-known-r : tie.Need-enum-known-r
-enum-known-r c = search needs
-
 enum-told : tie.Need-enum-told
 enum-told c = search needs
 
@@ -29,9 +23,6 @@ returns c =
     let a = check .before .before .before .before .args in
     lists-refuse (a .rows) (a .cols) (a .offsets .now) (a .tiles .now) (a .text .now) (check .check-lists .ensures) (c .before .r .given .1)
 
-same-length : tie.Need-same-length
-same-length c = search needs
-
 returns-2 : tie.Need-returns-2
 returns-2 c =
     let fill = c .before .before in
@@ -43,11 +34,5 @@ returns-2 c =
 pub write-sheet-spec : {M : Type 1} → statement M
 write-sheet-spec =
     tie.close
-    (tie.spec
-    check-lists-requires
-    enum-known-r
-    enum-told
-    fill-text-requires
-    returns
-    same-length
-    returns-2)
+    (tie.spec (λ c κs. search needs) (λ c. search needs) enum-told fill-text-requires returns
+    (λ c. search needs) returns-2)

@@ -7,9 +7,6 @@ use borrow.Author.Needs.{needs}
 use Rattle.sheet_cells.proofs.cells.cell_at.Statement.{statement}
 use Rattle.sheet_cells.proofs.cells.cell_at.Tie as tie
 
-field-at-requires : tie.Need-field-at-requires
-field-at-requires c κs = search needs
-
 returns : tie.Need-returns
 returns c =
     let a = c .before .before .before .before .args in
@@ -30,4 +27,4 @@ returns-2 c =
     cell-found (a .text .now) (a .at) (f .result) (f .ensures) (c .count-between .result) (not-false (f .result .sound) (c .before .if1 .left)) (c .count-between .ensures)
 
 pub cell-at-spec : {M : Type 1} → statement M
-cell-at-spec = tie.close (tie.spec field-at-requires returns count-between-requires returns-2)
+cell-at-spec = tie.close (tie.spec (λ c κs. search needs) returns count-between-requires returns-2)

@@ -4,9 +4,6 @@ use borrow.Author.Needs.{needs}
 use Rattle.sheet_keys.proofs.key_faults.blank_at.Statement.{statement}
 use Rattle.sheet_keys.proofs.key_faults.blank_at.Tie as tie
 
-field-at-requires : tie.Need-field-at-requires
-field-at-requires c κs = search needs
-
 returns : tie.Need-returns
 returns c =
     let f = c .before in
@@ -15,4 +12,4 @@ returns c =
     blank-is (a .sheet .now) (a .at) (start .pre) (f .field-at .result) (f .field-at .ensures)
 
 pub blank-at-spec : {M : Type 1} → statement M
-blank-at-spec = tie.close (tie.spec field-at-requires returns)
+blank-at-spec = tie.close (tie.spec (λ c κs. search needs) returns)

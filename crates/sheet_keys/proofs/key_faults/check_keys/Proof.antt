@@ -17,9 +17,6 @@ loop-holds c = let a = c .before .args in keys-start (a .records) (a .sheet .now
 key-fault-requires : tie.Need-key-fault-requires Inv-loop μ-loop
 key-fault-requires c κs = c .before .loop .inv .inside
 
-add-i : tie.Need-add-i Inv-loop μ-loop
-add-i c = search needs
-
 returns : tie.Need-returns Inv-loop μ-loop
 returns c =
     let f = c .before in
@@ -27,12 +24,6 @@ returns c =
     let a = l .before .before .args in
     let s = l .loop in
     keys-stop (a .records) (a .sheet .now) (s .next) (s .i) (s .inv) (f .before .loop-test .taken) (f .key-fault .result) (f .key-fault .ensures) (c .if1 .taken)
-
-place-after-requires : tie.Need-place-after-requires Inv-loop μ-loop
-place-after-requires c κs = search needs
-
-loop-less : tie.Need-loop-less Inv-loop μ-loop
-loop-less c = search needs
 
 loop-again : tie.Need-loop-again Inv-loop μ-loop
 loop-again c =
@@ -52,14 +43,5 @@ returns-2 c =
 pub check-keys-spec : {M : Type 1} → statement M
 check-keys-spec =
     tie.close
-    (tie.spec
-    Inv-loop
-    μ-loop
-    loop-holds
-    key-fault-requires
-    add-i
-    returns
-    place-after-requires
-    loop-less
-    loop-again
-    returns-2)
+    (tie.spec Inv-loop μ-loop loop-holds key-fault-requires (λ c. search needs) returns (λ c κs. search needs)
+    (λ c. search needs) loop-again returns-2)

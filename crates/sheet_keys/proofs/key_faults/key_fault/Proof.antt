@@ -1,33 +1,19 @@
 -- `key_faults::key_fault` meets its contract. Assumes nothing.
 use mathlib.Core.Path.{_∙_}
-use Rattle.sheet_keys.proofs.Checking.{inside-by, fault-is}
+use Rattle.sheet_fields.proofs.Runs.{place-within}
+use Rattle.sheet_keys.proofs.Checking.{fault-is}
 use borrow.Author.Needs.{needs}
 use Rattle.sheet_keys.proofs.key_faults.key_fault.Statement.{statement}
 use Rattle.sheet_keys.proofs.key_faults.key_fault.Tie as tie
 
-blank-at-requires : tie.Need-blank-at-requires
-blank-at-requires c κs = search needs
-
-place-after-requires : tie.Need-place-after-requires
-place-after-requires c κs = search needs
-
 blank-at-requires-2 : tie.Need-blank-at-requires-2
-blank-at-requires-2 c κs = let start = c .before .before .before in inside-by (start .args .sheet .now) (start .args .at) 4 (c .place-after .result) (start .pre) (c .place-after .ensures)
-
-place-after-requires-2 : tie.Need-place-after-requires-2
-place-after-requires-2 c κs = search needs
+blank-at-requires-2 c κs = let start = c .before .before .before in place-within (start .args .sheet .now) (start .args .at) 4 (c .place-after .result) (start .pre) (c .place-after .ensures)
 
 fits-at-requires : tie.Need-fits-at-requires
-fits-at-requires c κs = let start = c .before .before .before .before .before in inside-by (start .args .sheet .now) (start .args .at) 2 (c .place-after2 .result) (start .pre) (c .place-after2 .ensures)
-
-place-after-requires-3 : tie.Need-place-after-requires-3
-place-after-requires-3 c κs = search needs
+fits-at-requires c κs = let start = c .before .before .before .before .before in place-within (start .args .sheet .now) (start .args .at) 2 (c .place-after2 .result) (start .pre) (c .place-after2 .ensures)
 
 fits-at-requires-2 : tie.Need-fits-at-requires-2
-fits-at-requires-2 c κs = let start = c .before .before .before .before .before .before .before in inside-by (start .args .sheet .now) (start .args .at) 3 (c .place-after3 .result) (start .pre) (c .place-after3 .ensures)
-
-fault-of-requires : tie.Need-fault-of-requires
-fault-of-requires c κs = search needs
+fits-at-requires-2 c κs = let start = c .before .before .before .before .before .before .before in place-within (start .args .sheet .now) (start .args .at) 3 (c .place-after3 .result) (start .pre) (c .place-after3 .ensures)
 
 returns : tie.Need-returns
 returns c =
@@ -46,13 +32,5 @@ returns c =
 pub key-fault-spec : {M : Type 1} → statement M
 key-fault-spec =
     tie.close
-    (tie.spec
-    blank-at-requires
-    place-after-requires
-    blank-at-requires-2
-    place-after-requires-2
-    fits-at-requires
-    place-after-requires-3
-    fits-at-requires-2
-    fault-of-requires
-    returns)
+    (tie.spec (λ c κs. search needs) (λ c κs. search needs) blank-at-requires-2 (λ c κs. search needs)
+    fits-at-requires (λ c κs. search needs) fits-at-requires-2 (λ c κs. search needs) returns)

@@ -1,49 +1,22 @@
 -- `key_tables::put_keys` meets its contract. Assumes nothing.
 use native.Mathlib.Omega.{arith}
-use Rattle.sheet_keys.proofs.Texts.{seconds-put}
+use Rattle.sheet_keys.proofs.Seconds.{seconds-put}
 use borrow.Author.Needs.{needs}
 use Rattle.sheet_keys.proofs.key_tables.put_keys.Statement.{statement}
 use Rattle.sheet_keys.proofs.key_tables.put_keys.Tie as tie
 
-put-texts-requires : tie.Need-put-texts-requires
-put-texts-requires c κs = search needs
-
-put-seconds-requires : tie.Need-put-seconds-requires
-put-seconds-requires c κs = search needs
-
 put-numbers-requires : tie.Need-put-numbers-requires
-put-numbers-requires c κs = search needs
+put-numbers-requires c κs =
+    let start = c .before .before .before .before .before .before .before .before .before .before .before .before .before .before .before .before .before .before .before .before .before .before .before .before .before in
+    let numbers = start .pre .1 .1 .1 .1 .1 .0 in
+    omega arith
 
-put-texts-requires-2 : tie.Need-put-texts-requires-2
-put-texts-requires-2 c κs =
+fill-columns-requires-2 : tie.Need-fill-columns-requires-2
+fill-columns-requires-2 c κs =
     let start = c .before .before .before .before .before .before .before .before .before .before .before .before .before .before .before .before .before .before .before .before .before .before .before .before .before .before .before .before .before .before .before in
     let kinds = start .pre .1 .1 .1 .1 .0 in
     let offsets = start .pre .1 .1 .1 .1 .1 .1 in
     (search needs, (search needs, (omega arith, omega arith)))
-
-same-length : tie.Need-same-length
-same-length c = search needs
-
-same-length-2 : tie.Need-same-length-2
-same-length-2 c = search needs
-
-same-length-3 : tie.Need-same-length-3
-same-length-3 c = search needs
-
-same-length-4 : tie.Need-same-length-4
-same-length-4 c = search needs
-
-same-length-5 : tie.Need-same-length-5
-same-length-5 c = search needs
-
-same-length-6 : tie.Need-same-length-6
-same-length-6 c = search needs
-
-same-length-7 : tie.Need-same-length-7
-same-length-7 c = search needs
-
-same-length-8 : tie.Need-same-length-8
-same-length-8 c = search needs
 
 returns : tie.Need-returns
 returns c =
@@ -54,12 +27,12 @@ returns c =
     let start = names .before .before .before .before .before .before .before .before .before .before .before .before .before in
     let a = start .args in
     let present = start .pre .1 .1 .0 in (
-      names .put-texts .ensures,
+      names .fill-columns .ensures,
       (
-        seconds-put (a .records) (a .sheet .now) (a .present .now) (names .put-texts .last .1 .1 .1 .1 .1 .1 .1 .0) (a .paired .now) (paired .put-seconds .last .1 .1 .0) present (names .put-texts .ensures .flagged) (paired .put-seconds .ensures),
+        seconds-put (a .records) (a .sheet .now) (a .present .now) (names .fill-columns .last .1 .1 .1 .1 .1 .1 .1 .1 .0) (a .paired .now) (paired .put-seconds .last .1 .1 .0) present (names .fill-columns .ensures .flagged) (paired .put-seconds .ensures),
         (
           numbers .put-numbers .ensures,
-          sequences .put-texts2 .ensures,
+          sequences .fill-columns2 .ensures,
         ),
       ),
     )
@@ -67,17 +40,6 @@ returns c =
 pub put-keys-spec : {M : Type 1} → statement M
 put-keys-spec =
     tie.close
-    (tie.spec
-    put-texts-requires
-    put-seconds-requires
-    put-numbers-requires
-    put-texts-requires-2
-    same-length
-    same-length-2
-    same-length-3
-    same-length-4
-    same-length-5
-    same-length-6
-    same-length-7
-    same-length-8
-    returns)
+    (tie.spec (λ c κs. search needs) (λ c κs. search needs) put-numbers-requires fill-columns-requires-2
+    (λ c. search needs) (λ c. search needs) (λ c. search needs) (λ c. search needs)
+    (λ c. search needs) (λ c. search needs) (λ c. search needs) (λ c. search needs) returns)

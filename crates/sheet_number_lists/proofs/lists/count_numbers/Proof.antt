@@ -21,9 +21,6 @@ returns c = no-count (c .before .before .args .content .now) (c .if1 .taken)
 loop-holds : tie.Need-loop-holds Inv-loop μ-loop
 loop-holds c = counting-starts (c .before .before .args .content .now) (c .if1 .left)
 
-word-end-requires : tie.Need-word-end-requires Inv-loop μ-loop
-word-end-requires c κs = search needs
-
 number-in-requires : tie.Need-number-in-requires Inv-loop μ-loop
 number-in-requires c κs =
     let l = c .before .before in
@@ -89,16 +86,5 @@ returns-3 c = counting-ends (c .before .before .before .before .args .content .n
 pub count-numbers-spec : {M : Type 1} → statement M
 count-numbers-spec =
     tie.close
-    (tie.spec
-    Inv-loop
-    μ-loop
-    returns
-    loop-holds
-    word-end-requires
-    number-in-requires
-    returns-2
-    add-count
-    add-at
-    loop-less
-    loop-again
-    returns-3)
+    (tie.spec Inv-loop μ-loop returns loop-holds (λ c κs. search needs) number-in-requires returns-2 add-count
+    add-at loop-less loop-again returns-3)

@@ -14,9 +14,6 @@ Inv-loop content tiles₀ at next₀ from₀ tiles next from = Listing content t
 abbrev μ-loop : tie.MeasureT-loop
 μ-loop content tiles₀ at next₀ from₀ tiles next from = length content + 1 - from
 
-least-requires : tie.Need-least-requires Inv-loop μ-loop
-least-requires c κs = search needs
-
 returns : tie.Need-returns Inv-loop μ-loop
 returns c =
     let a = c .before .before .before .before .args in
@@ -27,18 +24,12 @@ loop-holds c =
     let a = c .before .before .before .before .args in
     rw (c .before .least .ensures) (listing-starts (a .content .now) (a .tiles .now) (a .at) (c .if1 .left))
 
-word-end-requires : tie.Need-word-end-requires Inv-loop μ-loop
-word-end-requires c κs = search needs
-
 number-in-requires : tie.Need-number-in-requires Inv-loop μ-loop
 number-in-requires c κs =
     let l = c .before .before in
     let e = c .word-end .ensures in
     let within = end-within (l .before .before .before .before .before .args .content .now) (l .loop .from) (c .before .loop-test .taken) in
     (omega arith, omega arith)
-
-put-tile-requires : tie.Need-put-tile-requires Inv-loop μ-loop
-put-tile-requires c κs = search needs
 
 add-from : tie.Need-add-from Inv-loop μ-loop
 add-from c =
@@ -86,17 +77,5 @@ returns-2 c =
 pub put-list-spec : {M : Type 1} → statement M
 put-list-spec =
     tie.close
-    (tie.spec
-    Inv-loop
-    μ-loop
-    least-requires
-    returns
-    loop-holds
-    word-end-requires
-    number-in-requires
-    put-tile-requires
-    add-from
-    loop-less
-    loop-again
-    same-length
-    returns-2)
+    (tie.spec Inv-loop μ-loop (λ c κs. search needs) returns loop-holds (λ c κs. search needs)
+    number-in-requires (λ c κs. search needs) add-from loop-less loop-again same-length returns-2)

@@ -7,21 +7,11 @@ use Rattle.sheet_number_lists.proofs.lists.put_tile.Tie as tie
 returns : tie.Need-returns
 returns c = let a = c .before .args in put-none (a .tiles .now) (a .at) (a .tile) (c .if1 .taken)
 
-mul-tiles : tie.Need-mul-tiles
-mul-tiles c = search needs
-
-slice-write-tiles : tie.Need-slice-write-tiles
-slice-write-tiles c = search needs
-
-add-result : tie.Need-add-result
-add-result c = search needs
-
-same-length : tie.Need-same-length
-same-length c = search needs
-
 returns-2 : tie.Need-returns-2
 returns-2 c = let a = c .before .args in put-one (a .tiles .now) (a .at) (a .tile) (c .if1 .left)
 
 pub put-tile-spec : {M : Type 1} → statement M
 put-tile-spec =
-    tie.close (tie.spec returns mul-tiles slice-write-tiles add-result same-length returns-2)
+    tie.close
+    (tie.spec returns (λ c. search needs) (λ c. search needs) (λ c. search needs) (λ c. search needs)
+    returns-2)

@@ -8,20 +8,8 @@ use Rattle.sheet_number_lists.proofs.plain.plain_number.Tie as tie
 returns : tie.Need-returns
 returns c = plain-empty (c .before .before .args .word .now) (c .if1 .taken)
 
-shared-slice-read-if2 : tie.Need-shared-slice-read-if2
-shared-slice-read-if2 c = search needs
-
 returns-2 : tie.Need-returns-2
 returns-2 c = plain-zero (c .before .before .before .before .args .word .now) (c .if2 .taken)
-
-whole-requires : tie.Need-whole-requires
-whole-requires c κs = search needs
-
-enum-known-n : tie.Need-enum-known-n
-enum-known-n c = search needs
-
-small-number-requires : tie.Need-small-number-requires
-small-number-requires c κs = search needs
 
 enum-told : tie.Need-enum-told
 enum-told c = search needs
@@ -45,13 +33,5 @@ returns-4 c =
 pub plain-number-spec : {M : Type 1} → statement M
 plain-number-spec =
     tie.close
-    (tie.spec
-    returns
-    shared-slice-read-if2
-    returns-2
-    whole-requires
-    enum-known-n
-    small-number-requires
-    enum-told
-    returns-3
-    returns-4)
+    (tie.spec returns (λ c. search needs) returns-2 (λ c κs. search needs) (λ c. search needs)
+    (λ c κs. search needs) enum-told returns-3 returns-4)

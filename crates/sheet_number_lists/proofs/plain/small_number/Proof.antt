@@ -4,9 +4,6 @@ use borrow.Author.Needs.{needs}
 use Rattle.sheet_number_lists.proofs.plain.small_number.Statement.{statement}
 use Rattle.sheet_number_lists.proofs.plain.small_number.Tie as tie
 
-cast-t3 : tie.Need-cast-t3
-cast-t3 c = search needs
-
 returns : tie.Need-returns
 returns c = small-below _ (c .if1 .taken)
 
@@ -14,4 +11,4 @@ returns-2 : tie.Need-returns-2
 returns-2 c = small-not _ (c .if1 .left)
 
 pub small-number-spec : {M : Type 1} → statement M
-small-number-spec = tie.close (tie.spec cast-t3 returns returns-2)
+small-number-spec = tie.close (tie.spec (λ c. search needs) returns returns-2)

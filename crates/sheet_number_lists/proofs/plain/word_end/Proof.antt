@@ -1,54 +1,12 @@
--- `plain::word_end` meets its contract. The loop's invariant: the word from `end` on ends where the one from `at` on does. Assumes nothing.
-use Prim.Native.Nat.{_+_, _-_}
-use mathlib.Core.Path.{_≡_, refl, _∙_}
-use lib.ListN.{length, drop}
-use Rattle.sheet_number_lists.specs.Counts.{wordLength}
-use Rattle.sheet_number_lists.proofs.Cuts.{end-past, end-here, end-next}
+-- `plain::word_end` meets its contract. Assumes nothing.
+use mathlib.Core.Path.{_∙_}
 use borrow.Author.Needs.{needs}
+use Rattle.sheet_number_lists.proofs.Cuts.{space-found}
 use Rattle.sheet_number_lists.proofs.plain.word_end.Statement.{statement}
 use Rattle.sheet_number_lists.proofs.plain.word_end.Tie as tie
 
-abbrev Inv-loop : tie.InvT-loop
-Inv-loop content at end₀ end = end + wordLength (drop end content) ≡ at + wordLength (drop at content)
-
-abbrev μ-loop : tie.MeasureT-loop
-μ-loop content at end₀ end = length content - end
-
-loop-holds : tie.Need-loop-holds Inv-loop μ-loop
-loop-holds c = refl
-
-shared-slice-read-if1 : tie.Need-shared-slice-read-if1 Inv-loop μ-loop
-shared-slice-read-if1 c = search needs
-
-returns : tie.Need-returns Inv-loop μ-loop
-returns c =
-    let turn = c .before .before in
-    end-here (turn .before .before .args .content .now) (turn .before .loop .end) (turn .loop-test .taken) (c .if1 .taken) ∙ turn .before .loop .inv
-
-add-end : tie.Need-add-end Inv-loop μ-loop
-add-end c = search needs
-
-loop-less : tie.Need-loop-less Inv-loop μ-loop
-loop-less c = search needs
-
-loop-again : tie.Need-loop-again Inv-loop μ-loop
-loop-again c =
-    let turn = c .before .before in
-    end-next (turn .before .before .args .content .now) (turn .before .loop .end) (turn .loop-test .taken) (c .if1 .left) ∙ turn .before .loop .inv
-
-returns-2 : tie.Need-returns-2 Inv-loop μ-loop
-returns-2 c = end-past (c .before .before .args .content .now) (c .before .loop .end) (c .loop-test .left) ∙ c .before .loop .inv
+returns : tie.Need-returns
+returns c = let a = c .before .before .args in c .find .ensures .0 ∙ space-found (a .content .now) (a .at)
 
 pub word-end-spec : {M : Type 1} → statement M
-word-end-spec =
-    tie.close
-    (tie.spec
-    Inv-loop
-    μ-loop
-    loop-holds
-    shared-slice-read-if1
-    returns
-    add-end
-    loop-less
-    loop-again
-    returns-2)
+word-end-spec = tie.close (tie.spec (λ c κs. search needs) returns)

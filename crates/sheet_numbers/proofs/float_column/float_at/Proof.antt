@@ -7,9 +7,6 @@ use borrow.Author.Needs.{needs}
 use Rattle.sheet_numbers.proofs.float_column.float_at.Statement.{statement}
 use Rattle.sheet_numbers.proofs.float_column.float_at.Tie as tie
 
-field-at-requires : tie.Need-field-at-requires
-field-at-requires c κs = search needs
-
 float-between-requires : tie.Need-float-between-requires
 float-between-requires c κs =
     let f = c .field-at in
@@ -24,4 +21,4 @@ returns c =
     c .float-between .ensures ∙ float-read (a .kind) (a .text .now) (a .at) (f .field-at .result) (f .field-at .ensures)
 
 pub float-at-spec : {M : Type 1} → statement M
-float-at-spec = tie.close (tie.spec field-at-requires float-between-requires returns)
+float-at-spec = tie.close (tie.spec (λ c κs. search needs) float-between-requires returns)

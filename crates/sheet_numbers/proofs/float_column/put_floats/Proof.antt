@@ -20,9 +20,6 @@ loop-holds c =
     let a = c .before .before .args in
     column-starts (isRead (a .kind)) (valueAs (a .kind)) (a .records) (a .width) (a .column) (a .text .now) (a .out .now)
 
-place-after-requires : tie.Need-place-after-requires Inv-loop μ-loop
-place-after-requires c κs = search needs
-
 float-at-requires : tie.Need-float-at-requires Inv-loop μ-loop
 float-at-requires c κs =
     let l = c .before .before in
@@ -30,24 +27,6 @@ float-at-requires c κs =
     let a = start .args in
     let s = l .loop in
     field-inside (isRead (a .kind)) (valueAs (a .kind)) (a .records) (a .width) (a .column) (a .text .now) (a .out .now) (s .out) (s .fault) (s .next) (s .i) (s .inv) (c .place-after .result) (c .place-after .ensures)
-
-mul-out : tie.Need-mul-out Inv-loop μ-loop
-mul-out c = search needs
-
-slice-write-out : tie.Need-slice-write-out Inv-loop μ-loop
-slice-write-out c = search needs
-
-add-i : tie.Need-add-i Inv-loop μ-loop
-add-i c = search needs
-
-first-fault-requires : tie.Need-first-fault-requires Inv-loop μ-loop
-first-fault-requires c κs = search needs
-
-place-after-requires-2 : tie.Need-place-after-requires-2 Inv-loop μ-loop
-place-after-requires-2 c κs = search needs
-
-loop-less : tie.Need-loop-less Inv-loop μ-loop
-loop-less c = search needs
 
 loop-again : tie.Need-loop-again Inv-loop μ-loop
 loop-again c =
@@ -75,18 +54,6 @@ returns c =
 pub put-floats-spec : {M : Type 1} → statement M
 put-floats-spec =
     tie.close
-    (tie.spec
-    Inv-loop
-    μ-loop
-    loop-holds
-    place-after-requires
-    float-at-requires
-    mul-out
-    slice-write-out
-    add-i
-    first-fault-requires
-    place-after-requires-2
-    loop-less
-    loop-again
-    same-length
-    returns)
+    (tie.spec Inv-loop μ-loop loop-holds (λ c κs. search needs) float-at-requires (λ c. search needs)
+    (λ c. search needs) (λ c. search needs) (λ c κs. search needs) (λ c κs. search needs) (λ c. search needs)
+    loop-again same-length returns)

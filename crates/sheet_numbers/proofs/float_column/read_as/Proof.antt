@@ -7,18 +7,9 @@ use borrow.Author.Needs.{needs}
 use Rattle.sheet_numbers.proofs.float_column.read_as.Statement.{statement}
 use Rattle.sheet_numbers.proofs.float_column.read_as.Tie as tie
 
-is-blank-requires : tie.Need-is-blank-requires
-is-blank-requires c κs = search needs
-
 returns : tie.Need-returns
 unfolding readAs ofBits decimal round
 returns c = rw (sym (c .before .is-blank .ensures) ∙ c .if1 .taken)
-
-logarithm-requires : tie.Need-logarithm-requires
-logarithm-requires c κs = search needs
-
-reading-of-requires : tie.Need-reading-of-requires
-reading-of-requires c κs = search needs
 
 returns-2 : tie.Need-returns-2
 unfolding readAs
@@ -26,12 +17,6 @@ returns-2 c =
     let way = c .before .before in
     let blank = way .before .before in
     rw (sym (blank .is-blank .ensures) ∙ way .before .if1 .left, way .if2 .taken) (c .reading-of .ensures ∙ ap readingOf (c .before .logarithm .ensures))
-
-decimal-requires : tie.Need-decimal-requires
-decimal-requires c κs = search needs
-
-reading-of-requires-2 : tie.Need-reading-of-requires-2
-reading-of-requires-2 c κs = search needs
 
 returns-3 : tie.Need-returns-3
 unfolding readAs
@@ -43,12 +28,5 @@ returns-3 c =
 pub read-as-spec : {M : Type 1} → statement M
 read-as-spec =
     tie.close
-    (tie.spec
-    is-blank-requires
-    returns
-    logarithm-requires
-    reading-of-requires
-    returns-2
-    decimal-requires
-    reading-of-requires-2
-    returns-3)
+    (tie.spec (λ c κs. search needs) returns (λ c κs. search needs) (λ c κs. search needs) returns-2
+    (λ c κs. search needs) (λ c κs. search needs) returns-3)

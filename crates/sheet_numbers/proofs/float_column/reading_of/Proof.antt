@@ -5,9 +5,6 @@ use borrow.Author.Needs.{needs}
 use Rattle.sheet_numbers.proofs.float_column.reading_of.Statement.{statement}
 use Rattle.sheet_numbers.proofs.float_column.reading_of.Tie as tie
 
-enum-known-value : tie.Need-enum-known-value
-enum-known-value c = search needs
-
 enum-told : tie.Need-enum-told
 enum-told c = search needs
 
@@ -19,4 +16,4 @@ unfolding ofBits decimal round
 returns-2 c = rw (c .enum-told .given .1)
 
 pub reading-of-spec : {M : Type 1} → statement M
-reading-of-spec = tie.close (tie.spec enum-known-value enum-told returns returns-2)
+reading-of-spec = tie.close (tie.spec (λ c. search needs) enum-told returns returns-2)
