@@ -21,12 +21,12 @@ no-energy-is (inf false) = refl
 no-energy-is (fin negative m e) = refl
 
 -- a bay with a strand: the bond of what was read
-pub bay-with-strand : (z : Sizes) (strandGlues scaffold : List ℕ) (deltaG entropy logs : List Float) (bay strand : ℕ) {glue : ℕ} {own : StrandGlues} {bond : Float}
+pub bay-with-strand : (z : Sizes) (strandGlues scaffold : List ℕ) (deltaG entropy logs : List Float) (bay strand : ℕ) {glue : ℕ} {own : StrandGlues} {bond log : Float}
     → eqb strand 0 ≡ false → own ≡ gluesOf strandGlues strand → glue ≡ scaffoldGlue scaffold bay
-    → bond ≡ bondWithScaffold deltaG entropy (z .glues) (z .kelvin) glue own
-    → sub binary64 bond (getD logs strand nan) ≡ bayEnergy z strandGlues scaffold deltaG entropy logs bay strand
+    → bond ≡ bondWithScaffold deltaG entropy (z .glues) (z .kelvin) glue own → log ≡ getD logs strand nan
+    → sub binary64 bond log ≡ bayEnergy z strandGlues scaffold deltaG entropy logs bay strand
 unfolding bayEnergy
-bay-with-strand z strandGlues scaffold deltaG entropy logs bay strand some o g b = rw (b, o, g, some)
+bay-with-strand z strandGlues scaffold deltaG entropy logs bay strand some o g b l = rw (b, o, g, l, some)
 
 module _ (z : Sizes) (strandGlues : List ℕ) (deltaG entropy : List Float) (first second : ℕ) {a b : StrandGlues} {bond : Float} where
   -- two strands, one north of the other

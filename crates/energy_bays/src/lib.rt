@@ -1,8 +1,5 @@
 // The energies of bays and of pairs of neighbours, in units of R·T.
 ghost use mathlib.Core.Path.{_≡_};
-ghost use Prim.Native.Nat.{_<_};
-ghost use Rattle.energy_bonds.specs.Readable.{Readable};
-ghost use Rattle.energy_bays.specs.OnBay.{OnBay};
 ghost use Rattle.energy_bays.specs.Energies.{bayEnergy, emptyPair, edgeEnergy, noEnergy};
 use bay_system::Sizes;
 
@@ -17,8 +14,6 @@ pub fn site_beta_energy(
     bay: usize,
     strand: usize,
 ) -> f64
-    requires { ⌜ Readable (z .strands) (z .glues) (now «strand_glues») (now «delta_g») (now entropy) ⌝ }
-    requires { ⌜ OnBay z (now scaffold) (now logs) bay strand ⌝ }
     ensures { λ r. ⌜ r ≡ bayEnergy z (now («strand_glues» .entry)) (now (scaffold .entry)) (now («delta_g» .entry)) (now (entropy .entry)) (now (logs .entry)) bay strand ⌝ }
 {
     if strand == 0 {
@@ -26,7 +21,8 @@ pub fn site_beta_energy(
     }
     let own = bay_glues::strand_glues_of(strand_glues, strand);
     let glue = bay_glues::scaffold_glue_at(scaffold, bay);
-    energy_bonds::bond_with_scaffold(delta_g, entropy, z.glues, z.kelvin, glue, own) - logs[strand]
+    let bond = energy_bonds::bond_with_scaffold(delta_g, entropy, z.glues, z.kelvin, glue, own);
+    bond - bay_glues::float_or_nan(logs, strand)
 }
 
 // Whether a bay of a pair is empty.
@@ -46,8 +42,6 @@ pub fn edge_beta_between(
     first: usize,
     second: usize,
 ) -> f64
-    requires { ⌜ Readable (z .strands) (z .glues) (now «strand_glues») (now «delta_g») (now entropy) ⌝ }
-    requires { ⌜ (first < z .strands) × (second < z .strands) ⌝ }
     ensures { λ r. ⌜ r ≡ edgeEnergy z (now («strand_glues» .entry)) (now («delta_g» .entry)) (now (entropy .entry)) «north_south» first second ⌝ }
 {
     if empty_pair(first, second) {
