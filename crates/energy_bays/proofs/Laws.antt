@@ -10,15 +10,15 @@ use Rattle.units.specs.declared.StrandGlues.{StrandGlues}
 use Rattle.bay_system.specs.declared.sizes.Sizes.{Sizes}
 use Rattle.bay_glues.specs.Tables.{gluesOf, scaffoldGlue}
 use Rattle.energy_bonds.specs.Bonds.{bondWe, bondNs, bondWithScaffold}
-use Rattle.energy_bays.specs.Energies.{bayEnergy, emptyPair, edgeEnergy, noEnergy}
+use Rattle.energy_bays.specs.Energies.{bayEnergy, emptyPair, edgeEnergy, isBad}
 
 -- no energy is what is not above minus infinity
-pub no-energy-is : (x : Float) → noEnergy x ≡ not (lt (inf true) x)
-unfolding noEnergy lt
-no-energy-is nan = refl
-no-energy-is (inf true) = refl
-no-energy-is (inf false) = refl
-no-energy-is (fin negative m e) = refl
+pub bad-is : (x : Float) → isBad x ≡ not (lt (inf true) x)
+unfolding isBad lt
+bad-is nan = refl
+bad-is (inf true) = refl
+bad-is (inf false) = refl
+bad-is (fin negative m e) = refl
 
 -- a bay with a strand: the bond of what was read
 pub bay-with-strand : (z : Sizes) (strandGlues scaffold : List ℕ) (deltaG entropy logs : List Float) (bay strand : ℕ) {glue : ℕ} {own : StrandGlues} {bond log : Float}

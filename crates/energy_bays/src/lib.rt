@@ -1,6 +1,6 @@
 // The energies of bays and of pairs of neighbours, in units of R·T.
 ghost use mathlib.Core.Path.{_≡_};
-ghost use Rattle.energy_bays.specs.Energies.{bayEnergy, emptyPair, edgeEnergy, noEnergy};
+ghost use Rattle.energy_bays.specs.Energies.{bayEnergy, emptyPair, edgeEnergy, isBad};
 use bay_system::Sizes;
 
 // The energy of a bay with a strand: 0.0 with strand 0, else the scaffold bond minus the strand's log concentration.
@@ -56,8 +56,8 @@ pub fn edge_beta_between(
 }
 
 // Whether a sum is no energy: a NaN or minus infinity.
-pub fn no_energy(x: f64) -> bool
-    ensures { λ r. ⌜ r ≡ noEnergy x ⌝ }
+pub fn is_bad(x: f64) -> bool
+    ensures { λ r. ⌜ r ≡ isBad x ⌝ }
 {
     floats::is_bad(x)
 }

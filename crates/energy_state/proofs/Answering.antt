@@ -13,7 +13,7 @@ use Rattle.units.specs.Refusals.{Verdict, passes, _▷_}
 use Rattle.units.proofs.Verdicts.{Tabled, tabled-if, tabled-then}
 use Rattle.bay_system.specs.System.{System, systemVerdict}
 use Rattle.bay_system.proofs.Tabled.{system-tabled}
-use Rattle.energy_bays.specs.Energies.{noEnergy}
+use Rattle.energy_bays.specs.Energies.{isBad}
 use Rattle.energy_listing_sum.specs.Listing.{listing, listingSum}
 use Rattle.energy_state.specs.StateG.{shapeVerdict, strandsVerdict, energyVerdict, layoutVerdict, stateVerdict, inKcal, stateG}
 use Rattle.energy_state.proofs.Passed.{each-bay}
@@ -28,7 +28,7 @@ module _ (s : System) (layout : List ℕ) where
       (tabled-then (systemVerdict s) (shape ▷ strands) (system-tabled s)
       (tabled-then shape strands (tabled-if (not (eqb (length layout) (s .sizes .rows * s .sizes .cols))) 5 [] refl)
       (tabled-if (ltb (firstFailing test layout) (length layout)) 6 _ refl)))
-      (tabled-if (noEnergy (listingSum s layout)) 10 [] refl)
+      (tabled-if (isBad (listingSum s layout)) 10 [] refl)
 
   -- what a sum over all bays is answered as, once the tests have passed
   pub answered-so : {sum : Float} {r : EnergyAnswer} → layoutVerdict s layout ≡ passes

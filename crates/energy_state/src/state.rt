@@ -9,7 +9,7 @@ ghost use Rattle.energy_state.specs.StateG.{shapeVerdict, strandsVerdict
 use bay_system::Sizes;
 use bay_system::check_system;
 use bay_table_checks::check_below;
-use energy_bays::no_energy;
+use energy_bays::is_bad;
 use energy_listing_sum::state_beta_energy;
 use units::Check;
 use units::EnergyAnswer;
@@ -51,7 +51,7 @@ fn check_state(
 pub fn answered(sum: f64, kelvin: f64) -> EnergyAnswer
     ensures { λ r. ⌜ r ≡ energyAnswer (energyVerdict sum) (inKcal sum kelvin) ⌝ }
 {
-    if no_energy(sum) {
+    if is_bad(sum) {
         return EnergyAnswer::Refused(Refusal {
             number: 10,
             first: 0,

@@ -7,8 +7,8 @@ use native.Mathlib.Nat.{mul-pos}
 use lib.Ieee.{Float, inf, lt}
 use lib.ListN.{length, getD}
 use borrow.Author.Tests.{not-true, not-false}
-use Rattle.energy_bays.specs.Energies.{noEnergy}
-use Rattle.energy_bays.proofs.Laws.{no-energy-is}
+use Rattle.energy_bays.specs.Energies.{isBad}
+use Rattle.energy_bays.proofs.Laws.{bad-is}
 use Rattle.bay_scan_order.specs.Scan.{window, numberAt}
 use Rattle.ledger_rows.specs.Scan.{Scan}
 use Rattle.ledger_rows.specs.Blocks.{tab}
@@ -39,10 +39,10 @@ module _ (rows cols w : ℕ) (scan : List ℕ) (sites major side : List Float) (
     sum-is : r ≡ answer z (rows * cols)
     sum-is = sum ∙ as-is answer
 
-    tested : {b : Bool} → b ≡ noEnergy r → not (lt (inf true) (answer z (rows * cols))) ≡ b
-    tested e = sym (no-energy-is (answer z (rows * cols))) ∙ ap noEnergy (sym sum-is) ∙ sym e
+    tested : {b : Bool} → b ≡ isBad r → not (lt (inf true) (answer z (rows * cols))) ≡ b
+    tested e = sym (bad-is (answer z (rows * cols))) ∙ ap isBad (sym sum-is) ∙ sym e
 
-    pub ran-bad : (old : List ℕ) {b : Bool} → b ≡ noEnergy r → b ≡ true → Ran z rows cols r old old e₀ e₁ n₀ n₁
+    pub ran-bad : (old : List ℕ) {b : Bool} → b ≡ isBad r → b ≡ true → Ran z rows cols r old old e₀ e₁ n₀ n₁
     ran-bad old e t =
         record {
           sum = sum-is;
@@ -51,7 +51,7 @@ module _ (rows cols w : ℕ) (scan : List ℕ) (sites major side : List Float) (
           notes = notes-are ∙ as-is (λ x n. notesAfter x n n₀);
         }
 
-    pub ran-good : (old new o₀ o₁ : List ℕ) {b : Bool} → b ≡ noEnergy r → b ≡ false → o₁ ≡ orderAfter given (length scan) o₀
+    pub ran-good : (old new o₀ o₁ : List ℕ) {b : Bool} → b ≡ isBad r → b ≡ false → o₁ ≡ orderAfter given (length scan) o₀
         → new ≡ tab (λ (bay : ℕ). getD o₁ (numberAt rows cols bay) 0) (rows * cols) → Ran z rows cols r old new e₀ e₁ n₀ n₁
     ran-good old new o₀ o₁ e t o l =
         let good = not-false (lt (inf true) (answer z (rows * cols))) (tested e ∙ t) in

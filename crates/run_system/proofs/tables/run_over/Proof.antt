@@ -18,8 +18,8 @@ run-requires c κs =
     let s = w .before .before .before .before .before .before .before in
     (subst (λ (v : ℕ). Fillable v (now (s .args .scan)) (now (s .args .sites)) (length (now (s .args .energies))) (length (now (s .args .notes)))) (sym (w .window .ensures)) (s .pre .0), (some-bays (s .pre .1 .0), s .pre .1 .1))
 
-no-energy-requires : tie.Need-no-energy-requires
-no-energy-requires c κs = search needs
+is-bad-requires : tie.Need-is-bad-requires
+is-bad-requires c κs = search needs
 
 same-length : tie.Need-same-length
 same-length c = search needs
@@ -37,7 +37,7 @@ returns c =
     let s = w .before .before .before .before .before .before .before in
     let a = s .args in
     ran-bad (a .rows) (a .cols) (w .window .result) (now (a .scan)) (now (a .sites)) (now (a .major)) (now (a .side)) (w .window .ensures) (s .pre .1 .0 .scanned)
-    (now (a .energies)) (now (a .notes)) (ran .run .ensures .0) (ran .run .ensures .1 .1 .0) (ran .run .ensures .1 .1 .1) (now (a .layout)) (c .before .no-energy .ensures) (c .if1 .taken)
+    (now (a .energies)) (now (a .notes)) (ran .run .ensures .0) (ran .run .ensures .1 .1 .0) (ran .run .ensures .1 .1 .1) (now (a .layout)) (c .before .is-bad .ensures) (c .if1 .taken)
 
 lay-out-requires : tie.Need-lay-out-requires
 lay-out-requires c κs = search needs
@@ -61,7 +61,7 @@ returns-2 c =
     let s = w .before .before .before .before .before .before .before in
     let a = s .args in
     ran-good (a .rows) (a .cols) (w .window .result) (now (a .scan)) (now (a .sites)) (now (a .major)) (now (a .side)) (w .window .ensures) (s .pre .1 .0 .scanned)
-    (now (a .energies)) (now (a .notes)) (ran .run .ensures .0) (ran .run .ensures .1 .1 .0) (ran .run .ensures .1 .1 .1) (now (a .layout)) _ (now (a .order)) _ (c .before .before .before .before .before .before .no-energy .ensures) (c .before .before .before .before .before .if1 .left) (ran .run .ensures .1 .0) (c .before .before .lay-out .ensures)
+    (now (a .energies)) (now (a .notes)) (ran .run .ensures .0) (ran .run .ensures .1 .1 .0) (ran .run .ensures .1 .1 .1) (now (a .layout)) _ (now (a .order)) _ (c .before .before .before .before .before .before .is-bad .ensures) (c .before .before .before .before .before .if1 .left) (ran .run .ensures .1 .0) (c .before .before .lay-out .ensures)
 
 pub run-over-spec : {M : Type 1} → statement M
 run-over-spec =
@@ -69,7 +69,7 @@ run-over-spec =
     (tie.spec
     window-requires
     run-requires
-    no-energy-requires
+    is-bad-requires
     same-length
     same-length-2
     same-length-3
