@@ -1,11 +1,11 @@
 // The strands that may lie on an unseeded bay: strand 0, and each whose bottom glue binds the bay's.
 ghost use mathlib.Core.Path.{_≡_};
 ghost use mathlib.Core.Bool.{_&&_};
-ghost use Prim.Native.Nat.{_<_};
 ghost use lib.Dec.{ltb};
+ghost use Rattle.units.specs.Limits.{mostStrands};
 ghost use Rattle.sets.specs.Set.{word};
-ghost use Rattle.energy_bonds.specs.Readable.{Readable};
 ghost use Rattle.bay_binding.specs.Binding.{isBond, binds, mayLie};
+use bay_glues::BOTTOM_GLUE_INDEX;
 use units::BaseEnergy;
 
 // Whether a cell has a ΔG or a ΔS different from zero.
@@ -17,7 +17,6 @@ fn is_bond(energy: BaseEnergy) -> bool
 
 // Whether a strand's bottom glue binds a glue.
 pub fn binds(
-    strands: usize,
     glues: usize,
     strand_glues: &[u32],
     delta_g: &[f64],
@@ -25,15 +24,13 @@ pub fn binds(
     glue: u32,
     strand: usize,
 ) -> bool
-    requires { ⌜ Readable strands glues (now «strand_glues») (now «delta_g») (now entropy) ⌝ }
-    requires { ⌜ (glue < glues) × (strand < strands) ⌝ }
     ensures { λ r. ⌜ r ≡ binds (now («strand_glues» .entry)) (now («delta_g» .entry)) (now (entropy .entry)) glues glue strand ⌝ }
 {
     let own = bay_glues::strand_glues_of(strand_glues, strand);
-    is_bond(bay_glues::cell(delta_g, entropy, glues, glue, own.glues[4]))
+    is_bond(bay_glues::cell(delta_g, entropy, glues, glue, own.glues[BOTTOM_GLUE_INDEX]))
 }
 
-// Whether a strand may lie on an unseeded bay with this glue.
+// Whether a number is a strand's that may lie on an unseeded bay with this glue.
 fn may_lie(
     strands: usize,
     glues: usize,
@@ -43,14 +40,15 @@ fn may_lie(
     glue: u32,
     strand: usize,
 ) -> bool
-    requires { ⌜ Readable strands glues (now «strand_glues») (now «delta_g») (now entropy) ⌝ }
-    requires { ⌜ (glue < glues) × (strand < strands) ⌝ }
-    ensures { λ r. ⌜ r ≡ mayLie (now («strand_glues» .entry)) (now («delta_g» .entry)) (now (entropy .entry)) glues glue strand ⌝ }
+    ensures { λ r. ⌜ r ≡ ltb strand strands && mayLie (now («strand_glues» .entry)) (now («delta_g» .entry)) (now (entropy .entry)) glues glue strand ⌝ }
 {
+    if strands <= strand {
+        return false;
+    }
     if strand == 0 {
         return true;
     }
-    binds(strands, glues, strand_glues, delta_g, entropy, glue, strand)
+    binds(glues, strand_glues, delta_g, entropy, glue, strand)
 }
 
 // The strands that may lie on an unseeded bay with this glue.
@@ -62,13 +60,11 @@ pub fn friends_btm(
     entropy: &[f64],
     glue: u32,
 ) -> u64
-    requires { ⌜ Readable strands glues (now «strand_glues») (now «delta_g») (now entropy) ⌝ }
-    requires { ⌜ glue < glues ⌝ }
-    ensures { λ r. ⌜ r ≡ word (λ t. ltb t strands && mayLie (now («strand_glues» .entry)) (now («delta_g» .entry)) (now (entropy .entry)) glues glue t) 64 ⌝ }
+    ensures { λ r. ⌜ r ≡ word (λ t. ltb t strands && mayLie (now («strand_glues» .entry)) (now («delta_g» .entry)) (now (entropy .entry)) glues glue t) mostStrands ⌝ }
 {
     let mut set = sets::empty();
     let mut t = 0;
-    while t < strands {
+    while t < units::MOST_STRANDS {
         let legal = may_lie(strands, glues, strand_glues, delta_g, entropy, glue, t);
         set = sets::with_if(set, t as u32, legal);
         t += 1;

@@ -51,7 +51,6 @@ fn glue_rule(
         return list_rule(allowed);
     }
     if binds(
-        z.strands,
         z.glues,
         strand_glues,
         delta_g,

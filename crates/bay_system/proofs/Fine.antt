@@ -10,6 +10,7 @@ use Rattle.units.specs.Places.{firstFailing, placeVerdict}
 use Rattle.units.specs.Refusals.{passes, _▷_}
 use Rattle.units.proofs.Places.{none-fails}
 use Rattle.units.proofs.Verdicts.{no-fault, first-passes, rest-passes}
+use Rattle.bay_glues.specs.Tables.{scaffoldGlue}
 use Rattle.bay_table_checks.specs.Tables.{gluesVerdict, energiesVerdict}
 use Rattle.bay_system.specs.System.{System, firstBadSeed, sizesVerdict, seedsVerdict, systemVerdict}
 use Rattle.bay_system.proofs.Ranges.{Shaped, shaped}
@@ -17,7 +18,7 @@ use Rattle.bay_system.proofs.Ranges.{Shaped, shaped}
 pub record Fine (s : System) : Type 0 where
   pub shape : Shaped s
   pub strand-glues : (i : ℕ) → i < length (s .strandGlues) → getD (s .strandGlues) i 0 < s .sizes .glues
-  pub scaffold : (i : ℕ) → i < length (s .scaffold) → getD (s .scaffold) i 0 < s .sizes .glues
+  pub scaffold : (i : ℕ) → i < length (s .scaffold) → scaffoldGlue (s .scaffold) i < s .sizes .glues
   pub seeds : length (s .seeds) / 3 ≤ firstBadSeed (s .sizes) (s .seeds)
 
 -- a list that no refusal names a place of has every number below the limit

@@ -1,4 +1,4 @@
-// Sizes and temperature of a system, and the lengths of its slices.
+// Sizes and temperature of a system, and their limits.
 ghost use mathlib.Core.Path.{_≡_};
 ghost use Rattle.bay_system.specs.System.{sizesFit};
 
@@ -14,17 +14,9 @@ pub struct Sizes {
 pub(crate) fn sizes_fit(z: Sizes) -> bool
     ensures { λ r. ⌜ r ≡ sizesFit z ⌝ }
 {
-    if !units::from_one_to(units::MOST_SIDE, z.rows) {
-        return false;
-    }
-    if !units::from_one_to(units::MOST_SIDE, z.cols) {
-        return false;
-    }
-    if !units::from_one_to(units::MOST_STRANDS, z.strands) {
-        return false;
-    }
-    if !units::from_one_to(units::MOST_GLUES, z.glues) {
-        return false;
-    }
-    units::in_kelvin_range(z.kelvin)
+    let rows = units::from_one_to(units::MOST_SIDE, z.rows);
+    let cols = units::from_one_to(units::MOST_SIDE, z.cols);
+    let strands = units::from_one_to(units::MOST_STRANDS, z.strands);
+    let glues = units::from_one_to(units::MOST_GLUES, z.glues);
+    rows & (cols & (strands & (glues & units::in_kelvin_range(z.kelvin))))
 }

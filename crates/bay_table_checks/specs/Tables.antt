@@ -20,6 +20,11 @@ isLog nan = false
 isLog (inf negative) = negative
 isLog (fin negative m e) = true
 
+-- what may stand in a table of floats: of log concentrations, or of energies, which are finite
+abbrev pub taken : (log : Bool) → Float → Bool
+taken true = isLog
+taken false = finite
+
 -- 3, with the first place through ΔG, ΔS, log concentrations: an energy is not finite, or a logarithm is none; strand 0's is never read
 abbrev pub energiesVerdict : (deltaG entropy logs : List Float) → Verdict
 energiesVerdict deltaG entropy logs =

@@ -17,7 +17,7 @@ use Rattle.dna_calls.specs.Starred.{starred as Sequences·starred}
 use Rattle.sets.specs.Set.{has, word, members}
 use Rattle.text_entries.specs.Entries.{offsetsFrom}
 use Rattle.bay_system.specs.System.{isLog, firstBadSeed}
-use Rattle.energy_bays.specs.Energies.{bayEnergy, edgeEnergy, noEnergy}
+use Rattle.energy_bays.specs.Energies.{bayEnergy, edgeEnergy, isBad}
 use Rattle.bay_lists.specs.Lists.{names}
 use Rattle.bay_legal_at.specs.Legal.{seedAt}
 use Rattle.bay_legal.specs.Sets.{setsTo, firstEmpty}
@@ -26,5 +26,5 @@ use Rattle.ledger_rows.specs.Trace.{below, trace, answerRow}
 use Rattle.case_starred.specs.Cases.{Case, layouts, starred}
 
 pub starred-cases-hold : map (λ (c : Case). c .given) starred ≡ map (λ (c : Case). c .printed) starred
-unfolding layouts Sequences·starred decimal round ofBits finite gasConstant firstFailing baseOf isLetter Steps·noEnergy stepOf dgDs calcPenalty penaltyTable loopPenalty upTo lengths loopTable windowsSum stepsHundredths endTerm has word members offsetsFrom isLog firstBadSeed bayEnergy edgeEnergy noEnergy names seedAt setsTo firstEmpty tab flat size leavers newest lower lowest energies notes need energyTable below trace answerRow add sub mul div lt le ne
+unfolding layouts Sequences·starred decimal round ofBits finite gasConstant firstFailing baseOf isLetter Steps·noEnergy stepOf dgDs calcPenalty penaltyTable loopPenalty upTo lengths loopTable windowsSum stepsHundredths endTerm has word members offsetsFrom isLog firstBadSeed bayEnergy edgeEnergy isBad names seedAt setsTo firstEmpty tab flat size leavers newest lower lowest energies notes need energyTable below trace answerRow add sub mul div lt le ne
 starred-cases-hold = refl

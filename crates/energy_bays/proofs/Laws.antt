@@ -10,23 +10,23 @@ use Rattle.units.specs.declared.StrandGlues.{StrandGlues}
 use Rattle.bay_system.specs.declared.sizes.Sizes.{Sizes}
 use Rattle.bay_glues.specs.Tables.{gluesOf, scaffoldGlue}
 use Rattle.energy_bonds.specs.Bonds.{bondWe, bondNs, bondWithScaffold}
-use Rattle.energy_bays.specs.Energies.{bayEnergy, emptyPair, edgeEnergy, noEnergy}
+use Rattle.energy_bays.specs.Energies.{bayEnergy, emptyPair, edgeEnergy, isBad}
 
 -- no energy is what is not above minus infinity
-pub no-energy-is : (x : Float) → noEnergy x ≡ not (lt (inf true) x)
-unfolding noEnergy lt
-no-energy-is nan = refl
-no-energy-is (inf true) = refl
-no-energy-is (inf false) = refl
-no-energy-is (fin negative m e) = refl
+pub bad-is : (x : Float) → isBad x ≡ not (lt (inf true) x)
+unfolding isBad lt
+bad-is nan = refl
+bad-is (inf true) = refl
+bad-is (inf false) = refl
+bad-is (fin negative m e) = refl
 
 -- a bay with a strand: the bond of what was read
-pub bay-with-strand : (z : Sizes) (strandGlues scaffold : List ℕ) (deltaG entropy logs : List Float) (bay strand : ℕ) {glue : ℕ} {own : StrandGlues} {bond : Float}
+pub bay-with-strand : (z : Sizes) (strandGlues scaffold : List ℕ) (deltaG entropy logs : List Float) (bay strand : ℕ) {glue : ℕ} {own : StrandGlues} {bond log : Float}
     → eqb strand 0 ≡ false → own ≡ gluesOf strandGlues strand → glue ≡ scaffoldGlue scaffold bay
-    → bond ≡ bondWithScaffold deltaG entropy (z .glues) (z .kelvin) glue own
-    → sub binary64 bond (getD logs strand nan) ≡ bayEnergy z strandGlues scaffold deltaG entropy logs bay strand
+    → bond ≡ bondWithScaffold deltaG entropy (z .glues) (z .kelvin) glue own → log ≡ getD logs strand nan
+    → sub binary64 bond log ≡ bayEnergy z strandGlues scaffold deltaG entropy logs bay strand
 unfolding bayEnergy
-bay-with-strand z strandGlues scaffold deltaG entropy logs bay strand some o g b = rw (b, o, g, some)
+bay-with-strand z strandGlues scaffold deltaG entropy logs bay strand some o g b l = rw (b, o, g, l, some)
 
 module _ (z : Sizes) (strandGlues : List ℕ) (deltaG entropy : List Float) (first second : ℕ) {a b : StrandGlues} {bond : Float} where
   -- two strands, one north of the other

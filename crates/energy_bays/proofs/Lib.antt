@@ -1,3 +1,2 @@
-pub mod Squares
 pub mod Laws
 pub mod Worked

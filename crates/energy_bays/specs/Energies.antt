@@ -37,7 +37,7 @@ edgeEnergy z strandGlues deltaG entropy northSouth first second =
     cond (emptyPair first second) nothing (pairBond z strandGlues deltaG entropy northSouth first second)
 
 -- no energy: a NaN or minus infinity
-unfoldable pub noEnergy : Float → Bool
-noEnergy nan = true
-noEnergy (inf negative) = negative
-noEnergy (fin negative m e) = false
+unfoldable pub isBad : Float → Bool
+isBad nan = true
+isBad (inf negative) = negative
+isBad (fin negative m e) = false

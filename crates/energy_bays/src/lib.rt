@@ -1,9 +1,6 @@
 // The energies of bays and of pairs of neighbours, in units of R·T.
 ghost use mathlib.Core.Path.{_≡_};
-ghost use Prim.Native.Nat.{_<_};
-ghost use Rattle.energy_bonds.specs.Readable.{Readable};
-ghost use Rattle.energy_bays.specs.OnBay.{OnBay};
-ghost use Rattle.energy_bays.specs.Energies.{bayEnergy, emptyPair, edgeEnergy, noEnergy};
+ghost use Rattle.energy_bays.specs.Energies.{bayEnergy, emptyPair, edgeEnergy, isBad};
 use bay_system::Sizes;
 
 // The energy of a bay with a strand: 0.0 with strand 0, else the scaffold bond minus the strand's log concentration.
@@ -17,8 +14,6 @@ pub fn site_beta_energy(
     bay: usize,
     strand: usize,
 ) -> f64
-    requires { ⌜ Readable (z .strands) (z .glues) (now «strand_glues») (now «delta_g») (now entropy) ⌝ }
-    requires { ⌜ OnBay z (now scaffold) (now logs) bay strand ⌝ }
     ensures { λ r. ⌜ r ≡ bayEnergy z (now («strand_glues» .entry)) (now (scaffold .entry)) (now («delta_g» .entry)) (now (entropy .entry)) (now (logs .entry)) bay strand ⌝ }
 {
     if strand == 0 {
@@ -26,7 +21,8 @@ pub fn site_beta_energy(
     }
     let own = bay_glues::strand_glues_of(strand_glues, strand);
     let glue = bay_glues::scaffold_glue_at(scaffold, bay);
-    energy_bonds::bond_with_scaffold(delta_g, entropy, z.glues, z.kelvin, glue, own) - logs[strand]
+    let bond = energy_bonds::bond_with_scaffold(delta_g, entropy, z.glues, z.kelvin, glue, own);
+    bond - bay_glues::float_or_nan(logs, strand)
 }
 
 // Whether a bay of a pair is empty.
@@ -46,8 +42,6 @@ pub fn edge_beta_between(
     first: usize,
     second: usize,
 ) -> f64
-    requires { ⌜ Readable (z .strands) (z .glues) (now «strand_glues») (now «delta_g») (now entropy) ⌝ }
-    requires { ⌜ (first < z .strands) × (second < z .strands) ⌝ }
     ensures { λ r. ⌜ r ≡ edgeEnergy z (now («strand_glues» .entry)) (now («delta_g» .entry)) (now (entropy .entry)) «north_south» first second ⌝ }
 {
     if empty_pair(first, second) {
@@ -62,8 +56,8 @@ pub fn edge_beta_between(
 }
 
 // Whether a sum is no energy: a NaN or minus infinity.
-pub fn no_energy(x: f64) -> bool
-    ensures { λ r. ⌜ r ≡ noEnergy x ⌝ }
+pub fn is_bad(x: f64) -> bool
+    ensures { λ r. ⌜ r ≡ isBad x ⌝ }
 {
     floats::is_bad(x)
 }

@@ -1,25 +1,32 @@
 // Bonds between glues: two strands side by side, and a strand on the scaffold, in units of R·T.
 ghost use mathlib.Core.Path.{_≡_};
-ghost use Rattle.units.specs.Glues.{northOf, eastOf, southOf, westOf, bottomOf};
-ghost use Rattle.units.specs.Kelvin.{energyAt};
-ghost use Rattle.bay_glues.specs.Tables.{Square};
-ghost use Rattle.energy_bonds.specs.Bonds.{bondOf, bondWe, bondNs, bondWithScaffold};
-use bay_glues::cell;
-use units::BaseEnergy;
+ghost use Rattle.energy_bonds.specs.Bonds.{glueGlueDg, glueBond, bondWe, bondNs, bondWithScaffold};
+use bay_glues::BOTTOM_GLUE_INDEX;
+use bay_glues::EAST_GLUE_INDEX;
+use bay_glues::NORTH_GLUE_INDEX;
+use bay_glues::SOUTH_GLUE_INDEX;
+use bay_glues::WEST_GLUE_INDEX;
 use units::StrandGlues;
 
-// ΔG of a cell at a temperature.
-pub fn glue_glue_dg(energy: BaseEnergy, kelvin: f64) -> f64
-    ensures { λ r. ⌜ r ≡ energyAt energy kelvin ⌝ }
+// ΔG of two glues at a temperature, in kcal/mol.
+pub fn glue_glue_dg(
+    delta_g: &[f64],
+    entropy: &[f64],
+    glues: usize,
+    kelvin: f64,
+    a: u32,
+    b: u32,
+) -> f64
+    ensures { λ r. ⌜ r ≡ glueGlueDg (now («delta_g» .entry)) (now (entropy .entry)) glues kelvin a b ⌝ }
 {
-    units::energy_at(energy, kelvin)
+    units::energy_at(bay_glues::cell(delta_g, entropy, glues, a, b), kelvin)
 }
 
-// The bond of a cell.
-pub fn bond(energy: BaseEnergy, kelvin: f64) -> f64
-    ensures { λ r. ⌜ r ≡ bondOf energy kelvin ⌝ }
+// The bond of two glues.
+fn bond(delta_g: &[f64], entropy: &[f64], glues: usize, kelvin: f64, a: u32, b: u32) -> f64
+    ensures { λ r. ⌜ r ≡ glueBond (now («delta_g» .entry)) (now (entropy .entry)) glues kelvin a b ⌝ }
 {
-    units::times_beta(glue_glue_dg(energy, kelvin), kelvin)
+    units::times_beta(glue_glue_dg(delta_g, entropy, glues, kelvin, a, b), kelvin)
 }
 
 // The bond of two strands, `west` to the west of `east`.
@@ -31,13 +38,11 @@ pub fn bond_we(
     west: StrandGlues,
     east: StrandGlues,
 ) -> f64
-    requires { ⌜ Square (now «delta_g») (now entropy) glues (eastOf west) (westOf east) ⌝ }
     ensures { λ r. ⌜ r ≡ bondWe (now («delta_g» .entry)) (now (entropy .entry)) glues kelvin west east ⌝ }
 {
-    bond(
-        cell(delta_g, entropy, glues, west.glues[1], east.glues[3]),
-        kelvin,
-    )
+    let west_glue = west.glues[EAST_GLUE_INDEX];
+    let east_glue = east.glues[WEST_GLUE_INDEX];
+    bond(delta_g, entropy, glues, kelvin, west_glue, east_glue)
 }
 
 // The bond of two strands, `north` to the north of `south`.
@@ -49,13 +54,11 @@ pub fn bond_ns(
     north: StrandGlues,
     south: StrandGlues,
 ) -> f64
-    requires { ⌜ Square (now «delta_g») (now entropy) glues (southOf north) (northOf south) ⌝ }
     ensures { λ r. ⌜ r ≡ bondNs (now («delta_g» .entry)) (now (entropy .entry)) glues kelvin north south ⌝ }
 {
-    bond(
-        cell(delta_g, entropy, glues, north.glues[2], south.glues[0]),
-        kelvin,
-    )
+    let north_glue = north.glues[SOUTH_GLUE_INDEX];
+    let south_glue = south.glues[NORTH_GLUE_INDEX];
+    bond(delta_g, entropy, glues, kelvin, north_glue, south_glue)
 }
 
 // The bond of a strand to a bay's glue.
@@ -67,8 +70,8 @@ pub fn bond_with_scaffold(
     glue: u32,
     strand: StrandGlues,
 ) -> f64
-    requires { ⌜ Square (now «delta_g») (now entropy) glues glue (bottomOf strand) ⌝ }
     ensures { λ r. ⌜ r ≡ bondWithScaffold (now («delta_g» .entry)) (now (entropy .entry)) glues kelvin glue strand ⌝ }
 {
-    bond(cell(delta_g, entropy, glues, glue, strand.glues[4]), kelvin)
+    let strand_glue = strand.glues[BOTTOM_GLUE_INDEX];
+    bond(delta_g, entropy, glues, kelvin, glue, strand_glue)
 }

@@ -8,13 +8,14 @@ use native.Mathlib.Numerals.{add-one}
 use native.Mathlib.Omega.{arith}
 use lib.Dec.{eqb, ltb}
 use lib.Ieee.{Float, binary64, add}
+use borrow.Author.Tests.{eqb-false}
 use Rattle.bay_system.specs.declared.sizes.Sizes.{Sizes}
-use Rattle.energy_bays.specs.Energies.{nothing, bayEnergy, edgeEnergy}
-use Rattle.energy_listing_sum.specs.Listing.{strandAt, withWest, withNorth, listing}
+use Rattle.energy_bays.specs.Energies.{nothing, bayEnergy}
+use Rattle.energy_listing_sum.specs.Listing.{strandAt, withEdge, withWest, withNorth, listing}
 
 -- a bay past the first column is not bay 0
-pub past-first : (bay cols : ℕ) → (bay % cols ≡ 0 → ⊥) → 1 ≤ bay
-past-first zero cols h = absurd (h (zero-mod cols))
+pub past-first : (bay cols : ℕ) → eqb (bay % cols) 0 ≡ false → 1 ≤ bay
+past-first zero cols h = absurd (eqb-false (0 % cols) 0 h (zero-mod cols))
 past-first (suc bay) cols h = omega arith
 
 module _ (z : Sizes) (strandGlues : List ℕ) (deltaG entropy : List Float) (layout : List ℕ) (bay : ℕ) (sum : Float) where
@@ -22,19 +23,19 @@ module _ (z : Sizes) (strandGlues : List ℕ) (deltaG entropy : List Float) (lay
   unfolding withWest
   west-absent first = rw first
 
-  pub west-added : {west own : ℕ} {bond : Float} → eqb (bay % z .cols) 0 ≡ false → west ≡ strandAt layout (bay - 1) → own ≡ strandAt layout bay
-      → bond ≡ edgeEnergy z strandGlues deltaG entropy false west own → add binary64 sum bond ≡ withWest z strandGlues deltaG entropy layout bay sum
+  pub west-added : {r : Float} → eqb (bay % z .cols) 0 ≡ false → r ≡ withEdge z strandGlues deltaG entropy layout false (bay - 1) bay sum
+      → r ≡ withWest z strandGlues deltaG entropy layout bay sum
   unfolding withWest
-  west-added there w o e = rw (e, w, o, there)
+  west-added there e = rw there e
 
   pub north-absent : ltb bay (z .cols) ≡ true → sum ≡ withNorth z strandGlues deltaG entropy layout bay sum
   unfolding withNorth
   north-absent first = rw first
 
-  pub north-added : {north own : ℕ} {bond : Float} → ltb bay (z .cols) ≡ false → north ≡ strandAt layout (bay - z .cols) → own ≡ strandAt layout bay
-      → bond ≡ edgeEnergy z strandGlues deltaG entropy true north own → add binary64 sum bond ≡ withNorth z strandGlues deltaG entropy layout bay sum
+  pub north-added : {r : Float} → ltb bay (z .cols) ≡ false → r ≡ withEdge z strandGlues deltaG entropy layout true (bay - z .cols) bay sum
+      → r ≡ withNorth z strandGlues deltaG entropy layout bay sum
   unfolding withNorth
-  north-added there n o e = rw (e, n, o, there)
+  north-added there e = rw there e
 
 module _ (z : Sizes) (strandGlues scaffold : List ℕ) (deltaG entropy logs : List Float) (layout : List ℕ) where
   pub from-nothing : nothing ≡ listing z strandGlues scaffold deltaG entropy logs layout 0

@@ -16,7 +16,7 @@ use Rattle.units.specs.Places.{firstFailing}
 use Rattle.units.specs.Refusals.{refusal}
 use Rattle.bay_table_checks.specs.Tables.{isLog}
 use Rattle.bay_system.specs.System.{System, system, firstBadSeed}
-use Rattle.energy_bays.specs.Energies.{bayEnergy, edgeEnergy, noEnergy}
+use Rattle.energy_bays.specs.Energies.{bayEnergy, edgeEnergy, isBad}
 use Rattle.energy_listing_sum.specs.Listing.{withWest, withNorth, listing}
 use Rattle.energy_state.specs.StateG.{stateG}
 
@@ -43,51 +43,51 @@ refusedWith number values = Refused (refusal number values)
 
 -- an empty bay costs 0.0, a strand its bond: −1 kcal/mol; a concentration of 0 costs plus infinity
 pub empty-bay : one (minus 1 1) (plus 0 1) (0 ∷ []) ≡ Energy (fin false 0 (pos 0))
-unfolding decimal finite gasConstant firstFailing isLog firstBadSeed bayEnergy edgeEnergy noEnergy withWest withNorth listing add sub mul div le
+unfolding decimal finite gasConstant firstFailing isLog firstBadSeed bayEnergy edgeEnergy isBad withWest withNorth listing add sub mul div le
 empty-bay = refl
 
 pub one-bond : one (minus 1 1) (plus 0 1) (1 ∷ []) ≡ Energy (fin true 1 (pos 0))
-unfolding decimal finite gasConstant firstFailing isLog firstBadSeed bayEnergy edgeEnergy noEnergy withWest withNorth listing add sub mul div le
+unfolding decimal finite gasConstant firstFailing isLog firstBadSeed bayEnergy edgeEnergy isBad withWest withNorth listing add sub mul div le
 one-bond = refl
 
 pub no-concentration : one (minus 1 1) (inf true) (1 ∷ []) ≡ Energy (inf false)
-unfolding decimal finite gasConstant firstFailing isLog firstBadSeed bayEnergy edgeEnergy noEnergy withWest withNorth listing add sub mul div le
+unfolding decimal finite gasConstant firstFailing isLog firstBadSeed bayEnergy edgeEnergy isBad withWest withNorth listing add sub mul div le
 no-concentration = refl
 
 -- the length is tested before the strands, and the first bad bay is named
 pub a-bay-too-many : one (minus 1 1) (plus 0 1) (0 ∷ 7 ∷ []) ≡ refusedWith 5 []
-unfolding decimal finite gasConstant firstFailing isLog firstBadSeed bayEnergy edgeEnergy noEnergy withWest withNorth listing add sub mul div le
+unfolding decimal finite gasConstant firstFailing isLog firstBadSeed bayEnergy edgeEnergy isBad withWest withNorth listing add sub mul div le
 a-bay-too-many = refl
 
 pub no-such-strand : two (minus 1 1) (plus 0 1) (plus 0 1) (1 ∷ 2 ∷ []) ≡ refusedWith 6 (1 ∷ [])
-unfolding decimal finite gasConstant firstFailing isLog firstBadSeed bayEnergy edgeEnergy noEnergy withWest withNorth listing add sub mul div le
+unfolding decimal finite gasConstant firstFailing isLog firstBadSeed bayEnergy edgeEnergy isBad withWest withNorth listing add sub mul div le
 no-such-strand = refl
 
 -- two strands and their bond: −1, −1 and −2; with an empty bay no bond
 pub neighbours : two (minus 1 1) (minus 2 1) (plus 0 1) (1 ∷ 1 ∷ []) ≡ Energy (fin true 1 (pos 2))
-unfolding decimal finite gasConstant firstFailing isLog firstBadSeed bayEnergy edgeEnergy noEnergy withWest withNorth listing add sub mul div le
+unfolding decimal finite gasConstant firstFailing isLog firstBadSeed bayEnergy edgeEnergy isBad withWest withNorth listing add sub mul div le
 neighbours = refl
 
 pub an-empty-neighbour : two (minus 1 1) (minus 2 1) (plus 0 1) (1 ∷ 0 ∷ []) ≡ Energy (fin true 1 (pos 0))
-unfolding decimal finite gasConstant firstFailing isLog firstBadSeed bayEnergy edgeEnergy noEnergy withWest withNorth listing add sub mul div le
+unfolding decimal finite gasConstant firstFailing isLog firstBadSeed bayEnergy edgeEnergy isBad withWest withNorth listing add sub mul div le
 an-empty-neighbour = refl
 
 -- minus infinity and NaN are refused; the bays' sum overflows before their bond is added, so the listing sum is minus infinity
 pub minus-infinity : one (minus (17 * 10 ^ 307) 1) (plus 0 1) (1 ∷ []) ≡ refusedWith 10 []
-unfolding decimal finite gasConstant firstFailing isLog firstBadSeed bayEnergy edgeEnergy noEnergy withWest withNorth listing add sub mul div le
+unfolding decimal finite gasConstant firstFailing isLog firstBadSeed bayEnergy edgeEnergy isBad withWest withNorth listing add sub mul div le
 minus-infinity = refl
 
 pub not-a-number : one (minus (17 * 10 ^ 307) 1) (inf true) (1 ∷ []) ≡ refusedWith 10 []
-unfolding decimal finite gasConstant firstFailing isLog firstBadSeed bayEnergy edgeEnergy noEnergy withWest withNorth listing add sub mul div le
+unfolding decimal finite gasConstant firstFailing isLog firstBadSeed bayEnergy edgeEnergy isBad withWest withNorth listing add sub mul div le
 not-a-number = refl
 
 pub overflow-before-the-bond : two (minus (7 * 10 ^ 307) 1) (plus (7 * 10 ^ 307) 1) (plus 0 1) (1 ∷ 1 ∷ []) ≡ refusedWith 10 []
-unfolding decimal finite gasConstant firstFailing isLog firstBadSeed bayEnergy edgeEnergy noEnergy withWest withNorth listing add sub mul div le
+unfolding decimal finite gasConstant firstFailing isLog firstBadSeed bayEnergy edgeEnergy isBad withWest withNorth listing add sub mul div le
 overflow-before-the-bond = refl
 
 -- the negative sum nearest to zero, at 200 kelvin: times (R·T) it is minus zero
 pub minus-zero : stateG (row 1 (1 ∷ []) (plus 200 1) (plus 0 1) (plus 0 1) (fin false 1 (negsuc 1073))) (1 ∷ []) ≡ Energy (fin true 0 (pos 0))
-unfolding decimal finite gasConstant firstFailing isLog firstBadSeed bayEnergy edgeEnergy noEnergy withWest withNorth listing add sub mul div le
+unfolding decimal finite gasConstant firstFailing isLog firstBadSeed bayEnergy edgeEnergy isBad withWest withNorth listing add sub mul div le
 minus-zero = refl
 
 -- Each side has a glue of its own: strand 1 has 1 to 5, strand 2 has 6 to 10, north, east, south, west, bottom. Of 12 × 12 cells (2, 9), (3, 6) and (11, 10)
@@ -104,23 +104,23 @@ ordered rows cols scaffold layout =
 
 -- the index order: the west strand's east glue, then the east strand's west glue; with the strands exchanged a cell of zero
 pub west-then-east : ordered 1 2 (0 ∷ 0 ∷ []) (1 ∷ 2 ∷ []) ≡ Energy (fin true 1 (pos 0))
-unfolding cells decimal finite gasConstant firstFailing isLog firstBadSeed bayEnergy edgeEnergy noEnergy withWest withNorth listing add sub mul div le
+unfolding cells decimal finite gasConstant firstFailing isLog firstBadSeed bayEnergy edgeEnergy isBad withWest withNorth listing add sub mul div le
 west-then-east = refl
 
 pub east-strand-in-the-west : ordered 1 2 (0 ∷ 0 ∷ []) (2 ∷ 1 ∷ []) ≡ Energy (fin false 0 (pos 0))
-unfolding cells decimal finite gasConstant firstFailing isLog firstBadSeed bayEnergy edgeEnergy noEnergy withWest withNorth listing add sub mul div le
+unfolding cells decimal finite gasConstant firstFailing isLog firstBadSeed bayEnergy edgeEnergy isBad withWest withNorth listing add sub mul div le
 east-strand-in-the-west = refl
 
 -- the north strand's south glue, then the south strand's north glue
 pub north-then-south : ordered 2 1 (0 ∷ 0 ∷ []) (1 ∷ 2 ∷ []) ≡ Energy (fin true 1 (pos 0))
-unfolding cells decimal finite gasConstant firstFailing isLog firstBadSeed bayEnergy edgeEnergy noEnergy withWest withNorth listing add sub mul div le
+unfolding cells decimal finite gasConstant firstFailing isLog firstBadSeed bayEnergy edgeEnergy isBad withWest withNorth listing add sub mul div le
 north-then-south = refl
 
 pub south-strand-in-the-north : ordered 2 1 (0 ∷ 0 ∷ []) (2 ∷ 1 ∷ []) ≡ Energy (fin false 0 (pos 0))
-unfolding cells decimal finite gasConstant firstFailing isLog firstBadSeed bayEnergy edgeEnergy noEnergy withWest withNorth listing add sub mul div le
+unfolding cells decimal finite gasConstant firstFailing isLog firstBadSeed bayEnergy edgeEnergy isBad withWest withNorth listing add sub mul div le
 south-strand-in-the-north = refl
 
 -- the bay's glue, then the strand's bottom glue
 pub bay-then-strand : ordered 1 1 (11 ∷ []) (2 ∷ []) ≡ Energy (fin true 1 (pos 0))
-unfolding cells decimal finite gasConstant firstFailing isLog firstBadSeed bayEnergy edgeEnergy noEnergy withWest withNorth listing add sub mul div le
+unfolding cells decimal finite gasConstant firstFailing isLog firstBadSeed bayEnergy edgeEnergy isBad withWest withNorth listing add sub mul div le
 bay-then-strand = refl

@@ -12,7 +12,7 @@ use Rattle.units.specs.Places.{placeVerdict}
 use Rattle.units.specs.Refusals.{Verdict, refuseIf, _▷_}
 use Rattle.bay_system.specs.declared.sizes.Sizes.{Sizes}
 use Rattle.bay_system.specs.System.{System, systemVerdict}
-use Rattle.energy_bays.specs.Energies.{noEnergy}
+use Rattle.energy_bays.specs.Energies.{isBad}
 use Rattle.energy_listing_sum.specs.Listing.{listingSum}
 
 -- 5: the layout has the wrong length
@@ -25,7 +25,7 @@ strandsVerdict z layout = placeVerdict 6 0 (λ strand. ltb strand (z .strands)) 
 
 -- 10: the sum is a NaN or minus infinity
 abbrev pub energyVerdict : (sum : Float) → Verdict
-energyVerdict sum = refuseIf (noEnergy sum) 10 []
+energyVerdict sum = refuseIf (isBad sum) 10 []
 
 -- what is refused before anything is added
 abbrev pub layoutVerdict : System → (layout : List ℕ) → Verdict

@@ -2,33 +2,29 @@
 ghost use mathlib.Core.Path.{_≡_};
 ghost use Prim.Native.Nat.{_≤_};
 ghost use Rattle.units.specs.Answers.{energyAnswer, energyRefusal};
+ghost use Rattle.units.specs.Limits.{mostSide};
 ghost use Rattle.units.specs.Refusals.{check, Prints, _▷_};
 ghost use Rattle.bay_system.specs.System.{system};
 ghost use Rattle.energy_state.specs.StateG.{shapeVerdict, strandsVerdict, layoutVerdict, energyVerdict, inKcal, stateVerdict, stateG};
 use bay_system::Sizes;
 use bay_system::check_system;
-use bay_table_checks::first_large;
-use bay_table_checks::place_check;
-use energy_bays::no_energy;
+use bay_table_checks::check_below;
+use energy_bays::is_bad;
 use energy_listing_sum::state_beta_energy;
 use units::Check;
 use units::EnergyAnswer;
 use units::Refusal;
 use units::rtval;
 
-// Refusals 5 and 6.
+// Refusal 5 where a layout has the wrong length, else 6 where it names a strand that is not there.
 fn check_layout(z: Sizes, layout: &[u32]) -> Check
-    requires { ⌜ (z .rows ≤ 32) × (z .cols ≤ 32) ⌝ }
+    requires { ⌜ (z .rows ≤ mostSide) × (z .cols ≤ mostSide) ⌝ }
     ensures { λ r. ⌜ r ≡ check (shapeVerdict z (now (layout .entry)) ▷ strandsVerdict z (now (layout .entry))) ⌝ }
 {
     if layout.len() != z.rows * z.cols {
-        return Check::Refused(Refusal {
-            number: 5,
-            first: 0,
-            second: 0,
-        });
+        return units::refused(5);
     }
-    place_check(6, 0, first_large(layout, z.strands), layout.len())
+    check_below(6, 0, layout, z.strands)
 }
 
 // What is refused before anything is added: 1 to 4, then 5 and 6.
@@ -42,7 +38,8 @@ fn check_state(
     seeds: &[u32],
     layout: &[u32],
 ) -> Check
-    ensures { λ r. ⌜ r ≡ check (layoutVerdict (system z (now («strand_glues» .entry)) (now (scaffold .entry)) (now («delta_g» .entry)) (now (entropy .entry)) (now (logs .entry)) (now (seeds .entry))) (now (layout .entry))) ⌝ }
+    ensures { λ r. let s = system z (now («strand_glues» .entry)) (now (scaffold .entry)) (now («delta_g» .entry)) (now (entropy .entry)) (now (logs .entry)) (now (seeds .entry)) in
+        ⌜ r ≡ check (layoutVerdict s (now (layout .entry))) ⌝ }
 {
     match check_system(z, strand_glues, scaffold, delta_g, entropy, logs, seeds) {
         Check::Refused(r) => Check::Refused(r),
@@ -54,7 +51,7 @@ fn check_state(
 pub fn answered(sum: f64, kelvin: f64) -> EnergyAnswer
     ensures { λ r. ⌜ r ≡ energyAnswer (energyVerdict sum) (inKcal sum kelvin) ⌝ }
 {
-    if no_energy(sum) {
+    if is_bad(sum) {
         return EnergyAnswer::Refused(Refusal {
             number: 10,
             first: 0,
@@ -75,8 +72,10 @@ pub fn state_g(
     seeds: &[u32],
     layout: &[u32],
 ) -> EnergyAnswer
-    ensures refusal { λ r. ⌜ Prints (energyRefusal r) (stateVerdict (system z (now («strand_glues» .entry)) (now (scaffold .entry)) (now («delta_g» .entry)) (now (entropy .entry)) (now (logs .entry)) (now (seeds .entry))) (now (layout .entry))) ⌝ }
-    ensures answer { λ r. ⌜ r ≡ stateG (system z (now («strand_glues» .entry)) (now (scaffold .entry)) (now («delta_g» .entry)) (now (entropy .entry)) (now (logs .entry)) (now (seeds .entry))) (now (layout .entry)) ⌝ }
+    ensures refusal { λ r. let s = system z (now («strand_glues» .entry)) (now (scaffold .entry)) (now («delta_g» .entry)) (now (entropy .entry)) (now (logs .entry)) (now (seeds .entry)) in
+        ⌜ Prints (energyRefusal r) (stateVerdict s (now (layout .entry))) ⌝ }
+    ensures answer { λ r. let s = system z (now («strand_glues» .entry)) (now (scaffold .entry)) (now («delta_g» .entry)) (now (entropy .entry)) (now (logs .entry)) (now (seeds .entry)) in
+        ⌜ r ≡ stateG s (now (layout .entry)) ⌝ }
 {
     match check_state(
         z,

@@ -25,9 +25,9 @@ use Rattle.energy_state.specs.StateG.{inKcal}
 use Rattle.bay_lists.specs.Lists.{Constraints, constraints}
 use Rattle.bay_legal_at.specs.Layouts.{LegalLayout}
 use Rattle.bay_legal.specs.Sets.{setsOf, emptyVerdict, shapeVerdict}
-use Rattle.energy_bays.specs.Energies.{noEnergy}
+use Rattle.energy_bays.specs.Energies.{isBad}
 use Rattle.energy_bays.specs.ScanSum.{scanSumOf}
-use Rattle.energy_bays.proofs.Laws.{no-energy-is}
+use Rattle.energy_bays.proofs.Laws.{bad-is}
 use Rattle.ledger_rows.specs.Scan.{Scan}
 use Rattle.ledger_rows.specs.Blocks.{heldAt, energies, notes, need, energyTable, noteTable}
 use Rattle.ledger_rows.specs.Trace.{trace, answerRow}
@@ -139,7 +139,7 @@ module _ (s : System) (c : Constraints) (r : EnergyAnswer) (l₀ l₁ : List ℕ
       -- ---- an energy
       module _ (no-fault-of : sumVerdict s c ≡ passes) where
         is-good : Answered z n
-        is-good = not-false (lt (inf true) (leastSum s c)) (sym (no-energy-is (leastSum s c)) ∙ no-fault (noEnergy (leastSum s c)) 10 [] no-fault-of)
+        is-good = not-false (lt (inf true) (leastSum s c)) (sym (bad-is (leastSum s c)) ∙ no-fault (isBad (leastSum s c)) 10 [] no-fault-of)
 
         table-at : {A : Type 0} (blank : A) (new old : List A) → tableAfter early (sumVerdict s c) (runNeed s c) blank new old ≡ new ++ drop (length new) old
         table-at blank new old =
@@ -175,7 +175,7 @@ module _ (s : System) (c : Constraints) (r : EnergyAnswer) (l₀ l₁ : List ℕ
             let fits-n : needed s c ≤ length n₁ = omega (arith, ap length at-n, length-append (noteTable z n) (drop (length (noteTable z n)) n₀), long-n, need-is) in
             let some : 0 < n = mul-pos (sizes .some-rows) (sizes .some-cols) in
             let all : suc (n - 1) ≡ n = omega (arith, some) in
-            let least = no-fault (noEnergy (leastSum s c)) 10 [] no-fault-of in
+            let least = no-fault (isBad (leastSum s c)) 10 [] no-fault-of in
             record {
               trail = trail s c own ledger e₁ n₁ held noted is-good (fits-e, fits-n);
               legal = subst (LegalLayout s c) (sym lay) (right .legal);
@@ -189,20 +189,20 @@ module _ (s : System) (c : Constraints) (r : EnergyAnswer) (l₀ l₁ : List ℕ
             }
 
       -- ---- no energy
-      bad-one : noEnergy (leastSum s c) ≡ true → (layout : List ℕ) × LegalLayout s c layout × (noEnergy (scanSumOf s layout) ≡ true)
+      bad-one : isBad (leastSum s c) ≡ true → (layout : List ℕ) × LegalLayout s c layout × (isBad (scanSumOf s layout) ≡ true)
       bad-one = right .refused .0
 
-      all-good : noEnergy (leastSum s c) ≡ false → (layout : List ℕ) → LegalLayout s c layout → noEnergy (scanSumOf s layout) ≡ false
-      all-good fine-sum layout legal = by (noEnergy (scanSumOf s layout)) refl
+      all-good : isBad (leastSum s c) ≡ false → (layout : List ℕ) → LegalLayout s c layout → isBad (scanSumOf s layout) ≡ false
+      all-good fine-sum layout legal = by (isBad (scanSumOf s layout)) refl
         where
-          by : (b : Bool) → noEnergy (scanSumOf s layout) ≡ b → noEnergy (scanSumOf s layout) ≡ false
+          by : (b : Bool) → isBad (scanSumOf s layout) ≡ b → isBad (scanSumOf s layout) ≡ false
           by true e = absurd (true≢false (sym (right .refused .1 (layout, legal, e)) ∙ fine-sum))
           by false e = e
 
-      none-bad : ((layout : List ℕ) → LegalLayout s c layout → noEnergy (scanSumOf s layout) ≡ false) → noEnergy (leastSum s c) ≡ false
-      none-bad all = ap noEnergy (sym (right .sum)) ∙ all (leastLayout s c) (right .legal)
+      none-bad : ((layout : List ℕ) → LegalLayout s c layout → isBad (scanSumOf s layout) ≡ false) → isBad (leastSum s c) ≡ false
+      none-bad all = ap isBad (sym (right .sum)) ∙ all (leastLayout s c) (right .legal)
 
-      zeros : {A : Type 0} (blank : A) (new old : List A) → noEnergy (leastSum s c) ≡ true
+      zeros : {A : Type 0} (blank : A) (new old : List A) → isBad (leastSum s c) ≡ true
           → take (needed s c) (tableAfter early (sumVerdict s c) (runNeed s c) blank new old) ≡ replicate (needed s c) blank
       zeros blank new old bad =
           let written = replicate (runNeed s c) blank in
@@ -217,10 +217,10 @@ module _ (s : System) (c : Constraints) (r : EnergyAnswer) (l₀ l₁ : List ℕ
     answered-by : (energy : Float) → r ≡ Energy energy → (runVerdict s c (length l₀) (length e₀) (length n₀) ≡ passes) × (inKcal (leastSum s c) (s .sizes .kelvin) ≡ energy)
     answered-by energy e = an-energy (runVerdict s c (length l₀) (length e₀) (length n₀)) (inKcal (leastSum s c) (s .sizes .kelvin)) energy (sym answer ∙ e)
 
-    ten : numberOf (energyRefusal r) ≡ 10 → Ready × (noEnergy (leastSum s c) ≡ true)
+    ten : numberOf (energyRefusal r) ≡ 10 → Ready × (isBad (leastSum s c) ≡ true)
     ten e =
         let both = ten-later early (sumVerdict s c) (early-is-not-ten s c (length l₀) (length e₀) (length n₀) .other) (sym number ∙ e) in
-        (ready-if (both .0), ten-by (noEnergy (leastSum s c)) (both .1))
+        (ready-if (both .0), ten-by (isBad (leastSum s c)) (both .1))
 
     pub demand-3 : Demand3 s c r l₀ l₁ e₀ e₁ n₀ n₁
     demand-3 =
@@ -232,7 +232,7 @@ module _ (s : System) (c : Constraints) (r : EnergyAnswer) (l₀ l₁ : List ℕ
             λ found.
                 let by = answered-by (found .0) (found .1) in
                 let ready = ready-if (first-passes early (sumVerdict s c) (by .0)) in
-                (ready, all-good ready (no-fault (noEnergy (leastSum s c)) 10 [] (rest-passes early (sumVerdict s c) (by .0)))),
+                (ready, all-good ready (no-fault (isBad (leastSum s c)) 10 [] (rest-passes early (sumVerdict s c) (by .0)))),
             λ both. (
               inKcal (leastSum s c) (s .sizes .kelvin),
               answer

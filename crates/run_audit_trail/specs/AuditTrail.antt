@@ -17,7 +17,7 @@ use Rattle.bay_system.specs.System.{System, bays, systemVerdict}
 use Rattle.bay_lists.specs.Lists.{Constraints, offsetsShaped}
 use Rattle.bay_legal_at.specs.Legal.{isLegal}
 use Rattle.bay_legal_at.specs.Layouts.{LegalLayout, LegalFilling}
-use Rattle.energy_bays.specs.Energies.{noEnergy}
+use Rattle.energy_bays.specs.Energies.{isBad}
 use Rattle.energy_bays.specs.ScanSum.{scannedStrand, scanSumOf}
 use Rattle.run_audit_trail.specs.Rows.{rowsAfter, begins, needed, EndsIn, strandThatLeft, fillingSum}
 
@@ -104,11 +104,11 @@ pub record Demand3
     -- an energy is answered exactly when the earlier tests pass and no legal layout's scan sum is NaN or minus infinity
     pub answers : ((energy : Float) × (answer ≡ Energy energy))
         ↔ (EarlierTestsPass s c (length layout₀) (length energies₀) (length leaving₀)
-        × ((layout : List ℕ) → LegalLayout s c layout → noEnergy (scanSumOf s layout) ≡ false))
+        × ((layout : List ℕ) → LegalLayout s c layout → isBad (scanSumOf s layout) ≡ false))
     -- "a run is refused for its energies", as 10, "exactly when some legal layout's scan sum is NaN or minus infinity": the earlier tests pass and there is one
     pub refused : (numberOf (energyRefusal answer) ≡ 10)
         ↔ (EarlierTestsPass s c (length layout₀) (length energies₀) (length leaving₀)
-        × ((layout : List ℕ) × LegalLayout s c layout × (noEnergy (scanSumOf s layout) ≡ true)))
+        × ((layout : List ℕ) × LegalLayout s c layout × (isBad (scanSumOf s layout) ≡ true)))
     -- then the needed places are 0, and the layout stays
     pub cleared : numberOf (energyRefusal answer) ≡ 10
         → (layout₁ ≡ layout₀) × (take (needed s c) energies₁ ≡ replicate (needed s c) (ofBits binary64 0)) × (take (needed s c) leaving₁ ≡ replicate (needed s c) 0)

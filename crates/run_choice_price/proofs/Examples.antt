@@ -13,7 +13,7 @@ use Rattle.units.specs.Refusals.{refuses, refusal}
 use Rattle.sets.specs.Set.{has, word, members}
 use Rattle.text_entries.specs.Entries.{offsetsFrom}
 use Rattle.bay_system.specs.System.{System, system, isLog, firstBadSeed}
-use Rattle.energy_bays.specs.Energies.{bayEnergy, edgeEnergy, noEnergy}
+use Rattle.energy_bays.specs.Energies.{bayEnergy, edgeEnergy, isBad}
 use Rattle.bay_lists.specs.Lists.{Constraints, constraints, names}
 use Rattle.bay_legal_at.specs.Legal.{seedAt}
 use Rattle.bay_legal.specs.Sets.{setsTo, firstEmpty}
@@ -64,5 +64,5 @@ seeded = refl
 
 -- the bay's own list does not count: strand 1 is left on it
 not-listed : priceLayout (one 1 []) kept-empty 0 1 2 2 (7 ∷ []) ≡ 1 ∷ []
-unfolding decimal round ofBits finite gasConstant firstFailing has word members offsetsFrom isLog firstBadSeed bayEnergy edgeEnergy noEnergy names seedAt setsTo firstEmpty tab flat size leavers newest lower lowest energies notes need below trace answerRow add sub mul div lt le ne
+unfolding decimal round ofBits finite gasConstant firstFailing has word members offsetsFrom isLog firstBadSeed bayEnergy edgeEnergy isBad names seedAt setsTo firstEmpty tab flat size leavers newest lower lowest energies notes need below trace answerRow add sub mul div lt le ne
 not-listed = refl

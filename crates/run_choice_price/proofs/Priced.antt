@@ -11,7 +11,7 @@ use Rattle.units.specs.Answers.{energyRefusal}
 use Rattle.units.specs.Refusals.{refuseIf, _▷_, Prints}
 use Rattle.units.proofs.Verdicts.{Tabled, tabled-if, tabled-then}
 use Rattle.units.proofs.Answers.{given, an-energy}
-use Rattle.energy_bays.specs.Energies.{noEnergy}
+use Rattle.energy_bays.specs.Energies.{isBad}
 use Rattle.energy_state.specs.StateG.{inKcal}
 use Rattle.bay_system.specs.System.{System, systemVerdict}
 use Rattle.bay_system.proofs.Tabled.{system-tabled}
@@ -42,7 +42,7 @@ price-tabled s c bay strand layout energies notes =
     (tabled-then empty room (tabled-if (ltb (firstEmpty rows cols sets 0 (rows * cols)) (rows * cols)) 7 _ refl)
     (tabled-then (refuseIf (ltb 1048576 need) 8 []) (refuseIf (ltb energies need || ltb notes need) 9 (need ∷ []))
     (tabled-if (ltb 1048576 need) 8 [] refl) (tabled-if (ltb energies need || ltb notes need) 9 (need ∷ []) refl)))))
-    (tabled-if (noEnergy (leastSumBy s (chosenLegal s c bay strand))) 10 [] refl)
+    (tabled-if (isBad (leastSumBy s (chosenLegal s c bay strand))) 10 [] refl)
 
 -- what the contract asks
 abbrev pub Priced : System → Constraints → (bay strand : ℕ) → EnergyAnswer → (l₀ l₁ : List ℕ) → (e₀ e₁ : List Float) → (n₀ n₁ : List ℕ) → Type 0

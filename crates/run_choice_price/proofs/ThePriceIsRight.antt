@@ -19,7 +19,7 @@ use Rattle.bay_system.proofs.Fine.{fine}
 use Rattle.bay_lists.specs.Lists.{Constraints, constraints}
 use Rattle.bay_legal_at.specs.Legal.{isLegal}
 use Rattle.bay_legal.specs.Sets.{bays, emptyVerdict}
-use Rattle.energy_bays.specs.Energies.{noEnergy}
+use Rattle.energy_bays.specs.Energies.{isBad}
 use Rattle.energy_state.specs.StateG.{inKcal}
 use Rattle.run_room.specs.Room.{roomVerdict}
 use Rattle.run_least_layout.specs.Run.{needBy, leastSumBy, leastLayoutBy}
@@ -91,7 +91,7 @@ module _ (s : System) (c : Constraints) (bay strand energies notes : ℕ) (old :
   the-price-is-right e =
       let a = answered (priceVerdict s c bay strand (length old) energies notes) (inKcal (leastSumBy s may) (s .sizes .kelvin)) energy e in
       let early = first-passes first (sumVerdict s c bay strand) (a .0) in
-      let good = no-fault (noEnergy (leastSumBy s may)) 10 [] (rest-passes first (sumVerdict s c bay strand) (a .0)) in
+      let good = no-fault (isBad (leastSumBy s may)) 10 [] (rest-passes first (sumVerdict s c bay strand) (a .0)) in
       let system-passes = first-passes (systemVerdict s) (choice ▷ empty ▷ room) early in
       let behind = rest-passes (systemVerdict s) (choice ▷ empty ▷ room) early in
       let on = inside (s .sizes) (length old) c bay (first-passes choice (empty ▷ room) behind) in

@@ -9,8 +9,8 @@ use lib.Ieee.{Float, inf, lt, le}
 use borrow.Author.Tests.{not-true, not-false}
 use Rattle.floats.specs.Values.{Good, Bad}
 use Rattle.bay_system.specs.System.{System}
-use Rattle.energy_bays.specs.Energies.{noEnergy}
-use Rattle.energy_bays.proofs.Laws.{no-energy-is}
+use Rattle.energy_bays.specs.Energies.{isBad}
+use Rattle.energy_bays.proofs.Laws.{bad-is}
 use Rattle.bay_lists.specs.Lists.{Constraints}
 use Rattle.bay_legal_at.specs.Legal.{isLegal}
 use Rattle.bay_legal_at.proofs.StrandBelow.{strand-below}
@@ -27,14 +27,14 @@ use Rattle.run_least_layout.proofs.Meaning.{rise-by}
 use Rattle.run_least_layout.proofs.Fillings.{Fit, fillingTo, filling-by, sum-by, layout-by, back-by}
 
 -- the test of an energy is the order's
-bad : (x : Float) → noEnergy x ≡ true → Bad x
-bad x e = not-true (lt (inf true) x) (sym (no-energy-is x) ∙ e)
+bad : (x : Float) → isBad x ≡ true → Bad x
+bad x e = not-true (lt (inf true) x) (sym (bad-is x) ∙ e)
 
-good : (x : Float) → noEnergy x ≡ false → Good x
-good x e = not-false (lt (inf true) x) (sym (no-energy-is x) ∙ e)
+good : (x : Float) → isBad x ≡ false → Good x
+good x e = not-false (lt (inf true) x) (sym (bad-is x) ∙ e)
 
-of-bad : (x : Float) → Bad x → noEnergy x ≡ true
-of-bad x e = no-energy-is x ∙ ap not e
+of-bad : (x : Float) → Bad x → isBad x ≡ true
+of-bad x e = bad-is x ∙ ap not e
 
 module _ (s : System) (may : ℕ → ℕ → Bool) (below : (b t : ℕ) → may b t ≡ true → t < s .sizes .strands) (fit : Fit s)
     (filled : EachHasStrand (scanBy s may) (bays (s .sizes))) where
@@ -54,16 +54,16 @@ module _ (s : System) (may : ℕ → ℕ → Bool) (below : (b t : ℕ) → may 
   laid-sum : (f : List ℕ) → Legal z n f → scanSumOf s (rowByRow (s .sizes .rows) (s .sizes .cols) f) ≡ scanSum z f
   laid-sum f legal = sym (layout-sum (rowByRow (s .sizes .rows) (s .sizes .cols) f) (layout-by s may below fit f legal)) ∙ ap (scanSum z) (back-by s may below fit f legal)
 
-  refused-by : noEnergy (leastSumBy s may) ≡ true → (l : List ℕ) × LayoutBy s may l × (noEnergy (scanSumOf s l) ≡ true)
+  refused-by : isBad (leastSumBy s may) ≡ true → (l : List ℕ) × LayoutBy s may l × (isBad (scanSumOf s l) ≡ true)
   refused-by e =
       let worst = ledger-by .refused .0 (bad (leastSumBy s may) e) in
       let f = worst .0 in
-      (rowByRow (s .sizes .rows) (s .sizes .cols) f, layout-by s may below fit f (worst .1), ap noEnergy (laid-sum f (worst .1)) ∙ of-bad (scanSum z f) (worst .2))
+      (rowByRow (s .sizes .rows) (s .sizes .cols) f, layout-by s may below fit f (worst .1), ap isBad (laid-sum f (worst .1)) ∙ of-bad (scanSum z f) (worst .2))
 
-  refused-if : ((l : List ℕ) × LayoutBy s may l × (noEnergy (scanSumOf s l) ≡ true)) → noEnergy (leastSumBy s may) ≡ true
+  refused-if : ((l : List ℕ) × LayoutBy s may l × (isBad (scanSumOf s l) ≡ true)) → isBad (leastSumBy s may) ≡ true
   refused-if w =
       let f = fillingTo s (w .0) n in
-      of-bad (leastSumBy s may) (ledger-by .refused .1 (f, filling-by s may below fit (w .0) (w .1) n (omega arith), bad (scanSum z f) (ap noEnergy (layout-sum (w .0) (w .1)) ∙ w .2)))
+      of-bad (leastSumBy s may) (ledger-by .refused .1 (f, filling-by s may below fit (w .0) (w .1) n (omega arith), bad (scanSum z f) (ap isBad (layout-sum (w .0) (w .1)) ∙ w .2)))
 
   pub right-by : LeastBy s may
   right-by =

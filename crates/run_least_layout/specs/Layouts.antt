@@ -9,7 +9,7 @@ use Rattle.bay_system.specs.System.{System, bays}
 use Rattle.bay_lists.specs.Lists.{Constraints}
 use Rattle.bay_legal_at.specs.Legal.{isLegal}
 use Rattle.bay_legal_at.specs.Layouts.{LayoutBy}
-use Rattle.energy_bays.specs.Energies.{noEnergy}
+use Rattle.energy_bays.specs.Energies.{isBad}
 use Rattle.energy_bays.specs.ScanSum.{scanSumOf}
 use Rattle.ledger_rows.specs.LeastEnergyTheorem.{LeastEnergyTheorem}
 use Rattle.run_least_layout.specs.Run.{scanBy, leastSumBy, leastLayoutBy}
@@ -22,9 +22,9 @@ pub record LeastBy (s : System) (may : ℕ → ℕ → Bool) : Type 0 where
   pub legal : LayoutBy s may (leastLayoutBy s may)
   pub sum : scanSumOf s (leastLayoutBy s may) ≡ leastSumBy s may
   -- no such layout has a smaller scan sum
-  pub no-smaller : noEnergy (leastSumBy s may) ≡ false → (layout : List ℕ) → LayoutBy s may layout → le (leastSumBy s may) (scanSumOf s layout) ≡ true
+  pub no-smaller : isBad (leastSumBy s may) ≡ false → (layout : List ℕ) → LayoutBy s may layout → le (leastSumBy s may) (scanSumOf s layout) ≡ true
   -- refused with 10 exactly when some such layout's scan sum is NaN or minus infinity
-  pub refused : (noEnergy (leastSumBy s may) ≡ true) ↔ ((layout : List ℕ) × LayoutBy s may layout × (noEnergy (scanSumOf s layout) ≡ true))
+  pub refused : (isBad (leastSumBy s may) ≡ true) ↔ ((layout : List ℕ) × LayoutBy s may layout × (isBad (scanSumOf s layout) ≡ true))
 
 -- What the run of a system promises, once its tests have passed.
 abbrev pub LeastLayoutTheorem : System → Constraints → Type 0

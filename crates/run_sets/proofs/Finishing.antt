@@ -19,7 +19,7 @@ use Rattle.units.specs.Answers.{energyAnswer}
 use Rattle.units.specs.Refusals.{Verdict, passes, refuses, refuseIf, _▷_, check, ifPasses}
 use Rattle.units.proofs.Verdicts.{passed, refused-keeps, no-fault, first-passes, rest-passes}
 use Rattle.units.proofs.Answers.{refused, an-energy}
-use Rattle.energy_bays.proofs.Laws.{no-energy-is}
+use Rattle.energy_bays.proofs.Laws.{bad-is}
 use Rattle.energy_state.specs.StateG.{energyVerdict, inKcal}
 use Rattle.ledger_rows.specs.Scan.{Scan, EachHasStrand}
 use Rattle.ledger_rows.specs.Blocks.{need, energyTable, noteTable}
@@ -95,7 +95,7 @@ fits need energies notes e =
 -- ---- the run itself
 -- the order's test of an energy, and the verdict on it
 as-passes : {A : Type 0} (x : Float) (new zero : A) → cond (lt (inf true) x) new zero ≡ ifPasses (energyVerdict x) new zero
-as-passes x new zero = by (lt (inf true) x) ∙ ap (λ (b : Bool). ifPasses (refuseIf b 10 []) new zero) (sym (no-energy-is x))
+as-passes x new zero = by (lt (inf true) x) ∙ ap (λ (b : Bool). ifPasses (refuseIf b 10 []) new zero) (sym (bad-is x))
   where
     by : (b : Bool) → cond b new zero ≡ ifPasses (refuseIf (not b) 10 []) new zero
     by true = refl

@@ -7,8 +7,8 @@ use native.Mathlib.Nat.{mul-pos}
 use lib.Ieee.{Float, inf, lt, binary64, ofBits}
 use lib.ListN.{length, getD}
 use borrow.Author.Tests.{not-true, not-false}
-use Rattle.energy_bays.specs.Energies.{noEnergy}
-use Rattle.energy_bays.proofs.Laws.{no-energy-is}
+use Rattle.energy_bays.specs.Energies.{isBad}
+use Rattle.energy_bays.proofs.Laws.{bad-is}
 use Rattle.bay_scan_order.specs.Scan.{window, numberAt}
 use Rattle.ledger_rows.specs.Scan.{Scan}
 use Rattle.ledger_rows.specs.Blocks.{tab, energyTable, noteTable}
@@ -44,10 +44,10 @@ module _ (rows cols w : ℕ) (scan : List ℕ) (sites major side : List Float) (
     notes-are : n₁ ≡ tableLeft z (rows * cols) 0 (noteTable z (rows * cols)) n₀
     notes-are = ran .notes ∙ as-is (λ x n. tableLeft x n 0 (noteTable x n) n₀)
 
-    tested : {b : Bool} → b ≡ noEnergy r → not (lt (inf true) (answer z (rows * cols))) ≡ b
-    tested e = sym (no-energy-is (answer z (rows * cols))) ∙ ap noEnergy (sym sum-is) ∙ sym e
+    tested : {b : Bool} → b ≡ isBad r → not (lt (inf true) (answer z (rows * cols))) ≡ b
+    tested e = sym (bad-is (answer z (rows * cols))) ∙ ap isBad (sym sum-is) ∙ sym e
 
-    pub ran-bad : (old : List ℕ) {b : Bool} → b ≡ noEnergy r → b ≡ true → Ran z rows cols r old old e₀ e₁ n₀ n₁
+    pub ran-bad : (old : List ℕ) {b : Bool} → b ≡ isBad r → b ≡ true → Ran z rows cols r old old e₀ e₁ n₀ n₁
     ran-bad old e t =
         record {
           sum = sum-is;
@@ -56,7 +56,7 @@ module _ (rows cols w : ℕ) (scan : List ℕ) (sites major side : List Float) (
           notes = notes-are;
         }
 
-    pub ran-good : (old new : List ℕ) {b : Bool} → b ≡ noEnergy r → b ≡ false → new ≡ tab (λ (bay : ℕ). getD o₁ (numberAt rows cols bay) 0) (rows * cols)
+    pub ran-good : (old new : List ℕ) {b : Bool} → b ≡ isBad r → b ≡ false → new ≡ tab (λ (bay : ℕ). getD o₁ (numberAt rows cols bay) 0) (rows * cols)
         → Ran z rows cols r old new e₀ e₁ n₀ n₁
     ran-good old new e t l =
         let good = not-false (lt (inf true) (answer z (rows * cols))) (tested e ∙ t) in

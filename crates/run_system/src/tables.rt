@@ -4,7 +4,7 @@ ghost use lib.ListN.{length};
 ghost use Rattle.bay_scan_order.specs.Scan.{window};
 ghost use Rattle.ledger_fill.specs.Handed.{runScan, Fillable};
 ghost use Rattle.run_system.specs.Steps.{OnBoard, Ran};
-use energy_bays::no_energy;
+use energy_bays::is_bad;
 use ledger_row_choice::PAIRS;
 use run_scan_tables::lay_out;
 use run_scan_tables::window;
@@ -38,7 +38,7 @@ pub(crate) fn run_over(
         energies,
         notes,
     );
-    if no_energy(sum) {
+    if is_bad(sum) {
         return sum;
     }
     lay_out(rows, cols, order, layout);

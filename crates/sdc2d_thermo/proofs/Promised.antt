@@ -11,7 +11,7 @@ use Rattle.units.specs.Answers.{energyRefusal}
 use Rattle.units.specs.Refusals.{refuseIf, _▷_, Prints}
 use Rattle.units.proofs.Verdicts.{Tabled, tabled-if, tabled-then}
 use Rattle.units.proofs.Answers.{given, an-energy}
-use Rattle.energy_bays.specs.Energies.{noEnergy}
+use Rattle.energy_bays.specs.Energies.{isBad}
 use Rattle.energy_state.specs.StateG.{inKcal}
 use Rattle.bay_system.specs.System.{System, systemVerdict}
 use Rattle.bay_system.proofs.Tabled.{system-tabled}
@@ -36,7 +36,7 @@ run-tabled s c layout energies notes =
     (tabled-then shape (empty ▷ room) (tabled-if (not (eqb layout (bays (s .sizes)) && offsetsShaped (bays (s .sizes)) c)) 5 [] refl)
     (tabled-then empty room (tabled-if (ltb (firstEmpty rows cols (setsOf s c) 0 (rows * cols)) (rows * cols)) 7 _ refl)
     (tabled-then (refuseIf (ltb 1048576 need) 8 []) (refuseIf (ltb energies need || ltb notes need) 9 (need ∷ [])) (tabled-if (ltb 1048576 need) 8 [] refl) (tabled-if (ltb energies need || ltb notes need) 9 (need ∷ []) refl)))))
-    (tabled-if (noEnergy (leastSum s c)) 10 [] refl)
+    (tabled-if (isBad (leastSum s c)) 10 [] refl)
 
 -- what the contract asks
 abbrev pub Promised : System → Constraints → EnergyAnswer → (l₀ l₁ : List ℕ) → (e₀ e₁ : List Float) → (n₀ n₁ : List ℕ) → Type 0

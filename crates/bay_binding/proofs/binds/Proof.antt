@@ -1,7 +1,5 @@
--- `bay_binding::binds` meets its contract: the strand's bottom glue is below the count. Assumes nothing.
-use Prim.Native.Nat.{_+_, _*_}
+-- `bay_binding::binds` meets its contract. Assumes nothing.
 use mathlib.Core.Path.{_∙_, ap}
-use native.Mathlib.Omega.{arith}
 use denote.Ref.{now}
 use borrow.Author.Needs.{needs}
 use Rattle.units.specs.declared.StrandGlues.{StrandGlues}
@@ -18,28 +16,17 @@ element-copy-out-cell : tie.Need-element-copy-out-cell
 element-copy-out-cell c = search needs
 
 cell-requires : tie.Need-cell-requires
-cell-requires c κs =
-    let start = c .before .before .before .before .before in
-    let r = start .pre .0 in
-    let own = c .before .strand-glues-of .ensures in
-    record {
-      few = r .few-glues;
-      first = start .pre .1 .0;
-      second = rw (own) (r .below (start .args .strand * 5 + 4) (omega arith));
-      energies = r .energies;
-      entropies = r .entropies;
-    }
+cell-requires c κs = search needs
 
 is-bond-requires : tie.Need-is-bond-requires
 is-bond-requires c κs = search needs
 
 returns : tie.Need-returns
 returns c =
-    let start = c .before .before .before .before .before .before .before in
+    let a = c .before .before .before .before .before .before .before .args in
     c .is-bond .ensures
     ∙ ap isBond (c .before .cell .ensures)
-    ∙ ap (λ (g : StrandGlues). isBond (cellOf (now (start .args .delta-g)) (now (start .args .entropy)) (start .args .glues) (start .args .glue) (bottomOf g)))
-    (c .before .before .before .strand-glues-of .ensures)
+    ∙ ap (λ (g : StrandGlues). isBond (cellOf (now (a .delta-g)) (now (a .entropy)) (a .glues) (a .glue) (bottomOf g))) (c .before .before .before .strand-glues-of .ensures)
 
 pub binds-spec : {M : Type 1} → statement M
 binds-spec =

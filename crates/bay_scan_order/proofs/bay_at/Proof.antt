@@ -3,6 +3,7 @@ use Prim.Native.Nat.{_%_, _*_, _≤_, _<_}
 use native.Mathlib.Nat.{mod-lt, mul-le-mul}
 use native.Mathlib.Omega.{arith}
 use borrow.Author.Tests.{le-leb, lt-leb}
+use Rattle.units.specs.Limits.{mostSide}
 use Rattle.bay_scan_order.proofs.Scanned.{some-row, column}
 use Rattle.bay_scan_order.proofs.bay_at.Statement.{statement}
 use Rattle.bay_scan_order.proofs.bay_at.Tie as tie
@@ -11,9 +12,9 @@ rows-there : (c : tie.Else1) → 0 < c .before .args .rows
 rows-there c = some-row (c .before .args .rows) (c .before .args .cols) (c .before .args .k) (c .before .pre .2)
 
 -- the row's first bay is below 1,024
-row-small : (c : tie.Else1) → c .before .args .k % c .before .args .rows * c .before .args .cols ≤ 32 * 32
+row-small : (c : tie.Else1) → c .before .args .k % c .before .args .rows * c .before .args .cols ≤ mostSide * mostSide
 row-small c =
-    let row : c .before .args .k % c .before .args .rows ≤ 32 = omega (arith, mod-lt (c .before .args .k) (rows-there c), c .before .pre .0) in
+    let row : c .before .args .k % c .before .args .rows ≤ mostSide = omega (arith, mod-lt (c .before .args .k) (rows-there c), c .before .pre .0) in
     mul-le-mul row (c .before .pre .1)
 
 returns : tie.Need-returns

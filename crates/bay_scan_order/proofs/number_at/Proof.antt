@@ -3,6 +3,7 @@ use Prim.Native.Nat.{_%_, _*_, _≤_, _<_}
 use native.Mathlib.Nat.{mod-lt, mul-le-mul}
 use native.Mathlib.Omega.{arith}
 use borrow.Author.Tests.{le-leb, lt-leb}
+use Rattle.units.specs.Limits.{mostSide}
 use Rattle.bay_scan_order.proofs.Scanned.{some-col, row-of}
 use Rattle.bay_scan_order.proofs.number_at.Statement.{statement}
 use Rattle.bay_scan_order.proofs.number_at.Tie as tie
@@ -11,9 +12,9 @@ cols-there : (c : tie.Else1) → 0 < c .before .args .cols
 cols-there c = some-col (c .before .args .rows) (c .before .args .cols) (c .before .args .bay) (c .before .pre .2)
 
 -- the column's first number is below 1,024
-column-small : (c : tie.Else1) → c .before .args .bay % c .before .args .cols * c .before .args .rows ≤ 32 * 32
+column-small : (c : tie.Else1) → c .before .args .bay % c .before .args .cols * c .before .args .rows ≤ mostSide * mostSide
 column-small c =
-    let col : c .before .args .bay % c .before .args .cols ≤ 32 = omega (arith, mod-lt (c .before .args .bay) (cols-there c), c .before .pre .1) in
+    let col : c .before .args .bay % c .before .args .cols ≤ mostSide = omega (arith, mod-lt (c .before .args .bay) (cols-there c), c .before .pre .1) in
     mul-le-mul col (c .before .pre .0)
 
 returns : tie.Need-returns

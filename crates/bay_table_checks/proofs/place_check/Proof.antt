@@ -4,14 +4,17 @@ use borrow.Author.Tests.{lt-ltb, le-ltb}
 use Rattle.bay_table_checks.proofs.place_check.Statement.{statement}
 use Rattle.bay_table_checks.proofs.place_check.Tie as tie
 
-add-t6 : tie.Need-add-t6
-add-t6 c = search needs
+add-refused-with : tie.Need-add-refused-with
+add-refused-with c = search needs
+
+refused-with-requires : tie.Need-refused-with-requires
+refused-with-requires c κs = search needs
 
 returns : tie.Need-returns
-returns c = rw (lt-ltb _ _ (c .if1 .taken))
+returns c = rw (lt-ltb _ _ (c .before .if1 .taken)) (c .refused-with .ensures)
 
 returns-2 : tie.Need-returns-2
 returns-2 c = rw (le-ltb _ _ (c .if1 .left))
 
 pub place-check-spec : {M : Type 1} → statement M
-place-check-spec = tie.close (tie.spec add-t6 returns returns-2)
+place-check-spec = tie.close (tie.spec add-refused-with refused-with-requires returns returns-2)

@@ -1,13 +1,11 @@
--- `energy_bays::edge_beta_between` meets its contract: each bond is read within the matrices. Assumes nothing.
+-- `energy_bays::edge_beta_between` meets its contract. Assumes nothing.
 use mathlib.Core.Path.{sym, _∙_}
-use native.Mathlib.Omega.{arith}
 use lib.Ieee.{ofBits}
 use denote.Ref.{now}
 use borrow.Author.Needs.{needs}
 use Rattle.units.specs.Decimals.{decimal}
 use Rattle.energy_bays.specs.Energies.{edgeEnergy}
 use Rattle.energy_bays.proofs.Laws.{edge-ns, edge-we}
-use Rattle.energy_bays.proofs.Squares.{square, own-glue, north-glue}
 use Rattle.energy_bays.proofs.edge_beta_between.Statement.{statement}
 use Rattle.energy_bays.proofs.edge_beta_between.Tie as tie
 
@@ -25,11 +23,7 @@ strand-glues-of-requires-2 : tie.Need-strand-glues-of-requires-2
 strand-glues-of-requires-2 c κs = search needs
 
 bond-ns-requires : tie.Need-bond-ns-requires
-bond-ns-requires c κs =
-    let start = c .before .before .before .before .before .before .before .before in
-    let r = start .pre .0 in
-    rw (c .before .before .strand-glues-of .ensures, c .before .strand-glues-of2 .ensures)
-    (square r (own-glue r (start .args .first) 2 (start .pre .1 .0) (omega arith)) (north-glue r (start .args .second) (start .pre .1 .1)))
+bond-ns-requires c κs = search needs
 
 returns-2 : tie.Need-returns-2
 returns-2 c =
@@ -40,11 +34,7 @@ returns-2 c =
     (second .before .strand-glues-of .ensures) (second .strand-glues-of2 .ensures) (c .before .if2 .taken) (c .bond-ns .ensures)
 
 bond-we-requires : tie.Need-bond-we-requires
-bond-we-requires c κs =
-    let start = c .before .before .before .before .before .before .before .before in
-    let r = start .pre .0 in
-    rw (c .before .before .strand-glues-of .ensures, c .before .strand-glues-of2 .ensures)
-    (square r (own-glue r (start .args .first) 1 (start .pre .1 .0) (omega arith)) (own-glue r (start .args .second) 3 (start .pre .1 .1) (omega arith)))
+bond-we-requires c κs = search needs
 
 returns-3 : tie.Need-returns-3
 returns-3 c =

@@ -1,5 +1,4 @@
--- `energy_bays::site_beta_energy` meets its contract: the scaffold bond is read within the matrices. Assumes nothing.
-use native.Mathlib.Omega.{arith}
+-- `energy_bays::site_beta_energy` meets its contract. Assumes nothing.
 use lib.Ieee.{ofBits}
 use denote.Ref.{now}
 use borrow.Author.Needs.{needs}
@@ -7,7 +6,6 @@ use borrow.Author.Tests.{eq-eqb, ne-eqb}
 use Rattle.units.specs.Decimals.{decimal}
 use Rattle.energy_bays.specs.Energies.{bayEnergy}
 use Rattle.energy_bays.proofs.Laws.{bay-with-strand}
-use Rattle.energy_bays.proofs.Squares.{square, own-glue}
 use Rattle.energy_bays.proofs.site_beta_energy.Statement.{statement}
 use Rattle.energy_bays.proofs.site_beta_energy.Tie as tie
 
@@ -22,25 +20,19 @@ scaffold-glue-at-requires : tie.Need-scaffold-glue-at-requires
 scaffold-glue-at-requires c κs = search needs
 
 bond-with-scaffold-requires : tie.Need-bond-with-scaffold-requires
-bond-with-scaffold-requires c κs =
-    let start = c .before .before .before .before .before .before .before .before in
-    let a = start .args in
-    rw (c .scaffold-glue-at .ensures, c .before .strand-glues-of .ensures)
-    (square (start .pre .0) (start .pre .1 .glue) (own-glue (start .pre .0) (a .strand) 4 (start .pre .1 .strand-below) (omega arith)))
+bond-with-scaffold-requires c κs = search needs
 
-mul-result : tie.Need-mul-result
-mul-result c = search needs
-
-shared-slice-read-result : tie.Need-shared-slice-read-result
-shared-slice-read-result c = search needs
+float-or-nan-requires : tie.Need-float-or-nan-requires
+float-or-nan-requires c κs = search needs
 
 returns-2 : tie.Need-returns-2
 returns-2 c =
-    let glue = c .before .before in
+    let bond = c .before in
+    let glue = bond .before in
     let test = glue .before .before in
     let a = test .before .before .before .before .before .before .args in
     bay-with-strand (a .z) (now (a .strand-glues)) (now (a .scaffold)) (now (a .delta-g)) (now (a .entropy)) (now (a .logs)) (a .bay) (a .strand)
-    (ne-eqb _ _ (test .if1 .left)) (glue .before .strand-glues-of .ensures) (glue .scaffold-glue-at .ensures) (c .before .bond-with-scaffold .ensures)
+    (ne-eqb _ _ (test .if1 .left)) (glue .before .strand-glues-of .ensures) (glue .scaffold-glue-at .ensures) (bond .bond-with-scaffold .ensures) (c .float-or-nan .ensures)
 
 pub site-beta-energy-spec : {M : Type 1} → statement M
 site-beta-energy-spec =
@@ -50,6 +42,5 @@ site-beta-energy-spec =
     strand-glues-of-requires
     scaffold-glue-at-requires
     bond-with-scaffold-requires
-    mul-result
-    shared-slice-read-result
+    float-or-nan-requires
     returns-2)

@@ -5,6 +5,7 @@ use native.Mathlib.Omega.{arith}
 use lib.Ieee.{ofBits}
 use lib.ListN.{length}
 use denote.Ref.{now}
+use borrow.Author.Needs.{needs}
 use Rattle.units.specs.Decimals.{decimal}
 use Rattle.energy_listing_sum.proofs.Sums.{from-nothing, one-bay-more}
 use Rattle.energy_listing_sum.specs.Listing.{listing}
@@ -25,35 +26,21 @@ loop-holds c =
     (omega arith, from-nothing (a .z) (now (a .strand-glues)) (now (a .scaffold)) (now (a .delta-g)) (now (a .entropy)) (now (a .logs)) (now (a .layout)))
 
 strand-at-requires : tie.Need-strand-at-requires Inv-loop μ-loop
-strand-at-requires c κs = c .loop-test .taken
+strand-at-requires c κs = search needs
 
 site-beta-energy-requires : tie.Need-site-beta-energy-requires Inv-loop μ-loop
-site-beta-energy-requires c κs =
-    let start = c .before .before .before .before .before .before .before .before .before in
-    let here = c .before .loop-test .taken in
-    let stock = start .pre .1 .0 in
-    let laid = start .pre .1 .1 in (
-      start .pre .0,
-      record {
-        inside = omega (arith, stock .bays, laid .bays);
-        glue = stock .glues _ (omega (arith, stock .bays, laid .bays));
-        strand-below = rw (c .strand-at .ensures) (laid .strands _ here);
-        each-strand = stock .each-strand;
-      },
-    )
+site-beta-energy-requires c κs = search needs
 
 with-west-requires : tie.Need-with-west-requires Inv-loop μ-loop
-with-west-requires c κs =
-    let start = c .before .before .before .before .before .before .before .before .before .before in
-    (start .pre .0, (start .pre .1 .1, c .before .before .loop-test .taken))
+with-west-requires c κs = search needs
 
 with-north-requires : tie.Need-with-north-requires Inv-loop μ-loop
-with-north-requires c κs =
-    let start = c .before .before .before .before .before .before .before .before .before .before .before in
-    (start .pre .0, (start .pre .1 .1, c .before .before .before .loop-test .taken))
+with-north-requires c κs = search needs
 
 add-bay : tie.Need-add-bay Inv-loop μ-loop
-add-bay c = omega arith
+add-bay c =
+    let turn = c .before .before .before .before in
+    omega (arith, turn .loop-test .taken, turn .before .before .before .before .before .before .before .before .good .1 .1 .1 .1 .1 .1 .0 .0)
 
 loop-less : tie.Need-loop-less Inv-loop μ-loop
 loop-less c = omega arith

@@ -3,7 +3,6 @@ use Prim.Native.Nat.{_-_}
 use mathlib.Core.Path.{_≡_}
 use native.Mathlib.Omega.{arith}
 use lib.ListN.{length}
-use Rattle.energy_bays.proofs.Squares.{square, own-glue}
 use borrow.Author.Needs.{needs}
 use Rattle.answers_systems.proofs.bonds_of.put_bay_row.Statement.{statement}
 use Rattle.answers_systems.proofs.bonds_of.put_bay_row.Tie as tie
@@ -24,14 +23,7 @@ strand-glues-of-requires : tie.Need-strand-glues-of-requires Inv-loop μ-loop
 strand-glues-of-requires c κs = search needs
 
 bond-with-scaffold-requires : tie.Need-bond-with-scaffold-requires Inv-loop μ-loop
-bond-with-scaffold-requires c κs =
-    let turn = c .before in
-    let l = turn .before in
-    let glue = l .before in
-    let start = glue .before .before .before .before .before .before in
-    let r = start .pre .0 .readable in
-    rw (glue .scaffold-glue-at .ensures, c .strand-glues-of .ensures)
-    (square r (start .pre .0 .bays (start .args .bay) (start .pre .1)) (own-glue r (l .loop .strand) 4 (turn .loop-test .taken) (omega arith)))
+bond-with-scaffold-requires c κs = search needs
 
 place-requires : tie.Need-place-requires Inv-loop μ-loop
 place-requires c κs = search needs

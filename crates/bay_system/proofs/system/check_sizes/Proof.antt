@@ -13,12 +13,20 @@ lengths-fit-requires c κs = sym (c .before .sizes-fit .ensures) ∙ c .if1 .tak
 returns : tie.Need-returns
 returns c = rw (sym (c .before .before .before .sizes-fit .ensures) ∙ c .before .before .if1 .taken, sym (c .before .lengths-fit .ensures) ∙ c .if2 .taken)
 
+refused-requires : tie.Need-refused-requires
+refused-requires c κs = search needs
+
 returns-2 : tie.Need-returns-2
-returns-2 c = rw (sym (c .before .before .before .sizes-fit .ensures) ∙ c .before .before .if1 .taken, sym (c .before .lengths-fit .ensures) ∙ c .if2 .left)
+returns-2 c =
+    let lengths = c .before in
+    rw (sym (lengths .before .before .before .sizes-fit .ensures) ∙ lengths .before .before .if1 .taken, sym (lengths .before .lengths-fit .ensures) ∙ lengths .if2 .left) (c .refused .ensures)
+
+refused-requires-2 : tie.Need-refused-requires-2
+refused-requires-2 c κs = search needs
 
 returns-3 : tie.Need-returns-3
-returns-3 c = rw (sym (c .before .sizes-fit .ensures) ∙ c .if1 .left)
+returns-3 c = rw (sym (c .before .before .sizes-fit .ensures) ∙ c .before .if1 .left) (c .refused2 .ensures)
 
 pub check-sizes-spec : {M : Type 1} → statement M
 check-sizes-spec =
-    tie.close (tie.spec sizes-fit-requires lengths-fit-requires returns returns-2 returns-3)
+    tie.close (tie.spec sizes-fit-requires lengths-fit-requires returns refused-requires returns-2 refused-requires-2 returns-3)

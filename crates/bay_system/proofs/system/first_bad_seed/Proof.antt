@@ -5,8 +5,6 @@ use native.Mathlib.Nat.{zero-add}
 use native.Mathlib.Omega.{arith}
 use lib.ListN.{length, drop}
 use denote.Ref.{now}
-use borrow.Author.Needs.{needs}
-use borrow.Author.Needs.{scaled-fits}
 use borrow.Author.Tests.{not-true, not-false}
 use Rattle.bay_system.proofs.Seeds.{seed-passes, seed-fails, seeds-end}
 use Rattle.bay_system.specs.System.{firstBadSeed}
@@ -26,43 +24,15 @@ two-more c = omega (arith, c .before .before .before .pre)
 loop-holds : tie.Need-loop-holds Inv-loop μ-loop
 loop-holds c = (omega arith, (omega arith, sym (zero-add _)))
 
-mul-seed-fits : tie.Need-mul-seed-fits Inv-loop μ-loop
-mul-seed-fits c = scaled-fits _ _ 4 (c .loop-test .taken) (c .before .before .before .good .1 .0 .1)
-
-shared-slice-read-seed-fits : tie.Need-shared-slice-read-seed-fits Inv-loop μ-loop
-shared-slice-read-seed-fits c = omega arith
-
-add-seed-fits : tie.Need-add-seed-fits Inv-loop μ-loop
-add-seed-fits c = omega arith
-
-mul-seed-fits-2 : tie.Need-mul-seed-fits-2 Inv-loop μ-loop
-mul-seed-fits-2 c =
-    let start = c .before .before .before .before in
-    scaled-fits _ (length (now (start .args .seeds))) 4 (omega (arith, two-more (c .before))) (start .good .1 .0 .1)
-
-shared-slice-read-seed-fits-2 : tie.Need-shared-slice-read-seed-fits-2 Inv-loop μ-loop
-shared-slice-read-seed-fits-2 c = omega arith
-
-add-seed-fits-2 : tie.Need-add-seed-fits-2 Inv-loop μ-loop
-add-seed-fits-2 c = omega arith
-
-mul-seed-fits-3 : tie.Need-mul-seed-fits-3 Inv-loop μ-loop
-mul-seed-fits-3 c =
-    let start = c .before .before .before .before .before in
-    scaled-fits _ (length (now (start .args .seeds))) 4 (omega (arith, two-more (c .before .before))) (start .good .1 .0 .1)
-
-shared-slice-read-seed-fits-3 : tie.Need-shared-slice-read-seed-fits-3 Inv-loop μ-loop
-shared-slice-read-seed-fits-3 c = omega arith
-
-seed-fits-requires : tie.Need-seed-fits-requires Inv-loop μ-loop
-seed-fits-requires c κs = search needs
+seed-fits-at-requires : tie.Need-seed-fits-at-requires Inv-loop μ-loop
+seed-fits-at-requires c κs = two-more c
 
 returns : tie.Need-returns Inv-loop μ-loop
 returns c =
-    let turn = c .before .before .before .before .before in
+    let turn = c .before .before in
     let start = turn .before .before .before in
     sym (turn .before .loop .inv .1 .1
-    ∙ seed-fails (start .args .z) (now (start .args .seeds)) _ _ (two-more turn) (sym (c .before .seed-fits .ensures) ∙ not-true _ (c .if1 .taken)))
+    ∙ seed-fails (start .args .z) (now (start .args .seeds)) _ _ (two-more turn) (sym (c .before .seed-fits-at .ensures) ∙ not-true _ (c .if1 .taken)))
 
 add-at : tie.Need-add-at Inv-loop μ-loop
 add-at c = omega arith
@@ -75,14 +45,14 @@ loop-less c = omega arith
 
 loop-again : tie.Need-loop-again Inv-loop μ-loop
 loop-again c =
-    let turn = c .before .before .before .before .before in
+    let turn = c .before .before in
     let start = turn .before .before .before in
     let more = two-more turn in (
       omega arith,
       (
         omega arith,
         turn .before .loop .inv .1 .1
-            ∙ seed-passes (start .args .z) (now (start .args .seeds)) _ _ more (sym (c .before .seed-fits .ensures) ∙ not-false _ (c .if1 .left)),
+            ∙ seed-passes (start .args .z) (now (start .args .seeds)) _ _ more (sym (c .before .seed-fits-at .ensures) ∙ not-false _ (c .if1 .left)),
       ),
     )
 
@@ -98,15 +68,7 @@ first-bad-seed-spec =
     Inv-loop
     μ-loop
     loop-holds
-    mul-seed-fits
-    shared-slice-read-seed-fits
-    add-seed-fits
-    mul-seed-fits-2
-    shared-slice-read-seed-fits-2
-    add-seed-fits-2
-    mul-seed-fits-3
-    shared-slice-read-seed-fits-3
-    seed-fits-requires
+    seed-fits-at-requires
     returns
     add-at
     add-i

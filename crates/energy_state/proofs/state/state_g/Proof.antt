@@ -6,7 +6,6 @@ use Rattle.units.proofs.Answers.{an-energy, refused, given}
 use Rattle.units.proofs.Verdicts.{refused-first, passed}
 use Rattle.bay_system.specs.System.{System, system}
 use Rattle.energy_state.proofs.Answering.{state-tabled, answered-so}
-use Rattle.energy_state.proofs.Passed.{readable, stocked, system-fine, laid-out}
 use Rattle.energy_listing_sum.specs.Listing.{listingSum}
 use Rattle.energy_state.specs.StateG.{layoutVerdict, energyVerdict, stateVerdict, inKcal}
 use Rattle.energy_state.proofs.state.state_g.Statement.{statement}
@@ -28,14 +27,7 @@ enum-told : tie.Need-enum-told
 enum-told c = search needs
 
 state-beta-energy-requires : tie.Need-state-beta-energy-requires
-state-beta-energy-requires c κs =
-    let test = c .before .before in
-    let start = test .before .before .before .before .before .before .before .before in
-    let s = asked start in
-    let layout = now (start .args .layout) in
-    let tests = passed (layoutVerdict s layout) (test .check-state .ensures) (c .enum-told .given .1) in
-    let sound = system-fine s layout tests in
-    (readable s sound, (stocked s sound, laid-out s layout tests))
+state-beta-energy-requires c κs = search needs
 
 answered-requires : tie.Need-answered-requires
 answered-requires c κs = search needs

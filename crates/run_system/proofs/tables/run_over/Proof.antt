@@ -22,7 +22,7 @@ returns c =
     let s = w .before .before .before .before .before .before .before in
     let a = s .args in
     ran-bad (a .rows) (a .cols) (w .window .result) (now (a .scan)) (now (a .sites)) (now (a .major)) (now (a .side)) (w .window .ensures) (s .pre .1 .0 .scanned)
-    (ran .run .ensures) (now (a .layout)) (c .before .no-energy .ensures) (c .if1 .taken)
+    (ran .run .ensures) (now (a .layout)) (c .before .is-bad .ensures) (c .if1 .taken)
 
 returns-2 : tie.Need-returns-2
 returns-2 c =
@@ -31,7 +31,7 @@ returns-2 c =
     let s = w .before .before .before .before .before .before .before in
     let a = s .args in
     ran-good (a .rows) (a .cols) (w .window .result) (now (a .scan)) (now (a .sites)) (now (a .major)) (now (a .side)) (w .window .ensures) (s .pre .1 .0 .scanned)
-    (ran .run .ensures) (now (a .layout)) _ (c .before .before .before .before .before .before .no-energy .ensures) (c .before .before .before .before .before .if1 .left) (c .before .before .lay-out .ensures)
+    (ran .run .ensures) (now (a .layout)) _ (c .before .before .before .before .before .before .is-bad .ensures) (c .before .before .before .before .before .if1 .left) (c .before .before .lay-out .ensures)
 
 pub run-over-spec : {M : Type 1} → statement M
 run-over-spec =

@@ -1,15 +1,13 @@
 -- `run_tables::sites::site_energy` meets its contract. Assumes nothing.
 use lib.Ieee.{ofBits}
+use borrow.Author.Needs.{needs}
 use borrow.Author.Tests.{lt-ltb, le-ltb}
 use Rattle.units.specs.Decimals.{decimal}
 use Rattle.run_tables.proofs.sites.site_energy.Statement.{statement}
 use Rattle.run_tables.proofs.sites.site_energy.Tie as tie
 
 site-beta-energy-requires : tie.Need-site-beta-energy-requires
-site-beta-energy-requires c κs =
-    let s = c .before .before .before .before .before .before .before in
-    let bay = s .pre .1 .0 in
-    (s .pre .0, record { inside = s .pre .1 .1; glue = bay .glues (s .args .bay) (s .pre .1 .1); strand-below = c .if1 .taken; each-strand = bay .each-strand })
+site-beta-energy-requires c κs = search needs
 
 returns : tie.Need-returns
 returns c = rw (lt-ltb _ _ (c .before .if1 .taken)) (c .site-beta-energy .ensures)
