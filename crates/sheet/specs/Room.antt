@@ -1,6 +1,6 @@
 -- The links of writing's chain of tests, as the functions between have them. Assumes nothing.
 use Prim.Native.Nat.{ℕ, _*_}
-use mathlib.Core.Bool.{true, not}
+use mathlib.Core.Bool.{not}
 use mathlib.Core.List.{List, [], _∷_}
 use mathlib.Core.Path.{_≡_}
 use lib.Dec.{ltb}
@@ -8,13 +8,13 @@ use lib.ListN.{length}
 use Rattle.units.specs.Refusals.{Verdict, refuseIf, ifPasses, _▷_}
 use Rattle.units.specs.Answers.{countAnswer}
 use Rattle.units.specs.declared.CountAnswer.{CountAnswer}
-use Rattle.bay_lists.specs.Lists.{constraints, offsetsShaped}
+use Rattle.bay_lists.specs.Lists.{offsetsShaped, lists}
 use Rattle.sheet_cells.specs.Cells.{front}
 use Rattle.sheet.specs.Read.{gridVerdict}
 
 -- 5, and 1 before it
 abbrev pub shapeVerdict : (rows columns : ℕ) → (offsets tiles : List ℕ) → Verdict
-shapeVerdict rows columns offsets tiles = refuseIf (not (offsetsShaped (rows * columns) (constraints true offsets tiles))) 5 []
+shapeVerdict rows columns offsets tiles = refuseIf (not (offsetsShaped (rows * columns) (lists offsets tiles))) 5 []
 
 abbrev pub listsVerdict : (rows columns : ℕ) → (offsets tiles : List ℕ) → Verdict
 listsVerdict rows columns offsets tiles = gridVerdict rows columns ▷ shapeVerdict rows columns offsets tiles

@@ -1,20 +1,20 @@
 -- What writing a constraint sheet answers and writes. Assumes nothing.
 use Prim.Native.Nat.{ℕ, _-_, _*_, _^_, min}
-use mathlib.Core.Bool.{true, not}
+use mathlib.Core.Bool.{not}
 use mathlib.Core.List.{List, [], _∷_}
 use lib.Dec.{ltb}
 use lib.ListN.{length}
 use Rattle.units.specs.Refusals.{Verdict, refuseIf, ifPasses, _▷_}
 use Rattle.units.specs.Answers.{countAnswer}
 use Rattle.units.specs.declared.CountAnswer.{CountAnswer}
-use Rattle.bay_lists.specs.Lists.{constraints, offsetsShaped}
+use Rattle.bay_lists.specs.Lists.{offsetsShaped, lists}
 use Rattle.sheet_cells.specs.Cells.{front}
 use Rattle.sheet_text.specs.Written.{sheetText}
 use Rattle.sheet.specs.Read.{gridVerdict}
 
 -- the bytes of the sheet
 abbrev pub sheetBytes : (rows columns : ℕ) → (offsets tiles : List ℕ) → List ℕ
-sheetBytes rows columns offsets tiles = sheetText (constraints true offsets tiles) columns 0 rows
+sheetBytes rows columns offsets tiles = sheetText (lists offsets tiles) columns 0 rows
 
 -- how many they are, or the largest usize where they are more
 abbrev pub bytesNeeded : (rows columns : ℕ) → (offsets tiles : List ℕ) → ℕ
@@ -24,7 +24,7 @@ bytesNeeded rows columns offsets tiles = min (length (sheetBytes rows columns of
 abbrev pub writeVerdict : (rows columns : ℕ) → (offsets tiles text : List ℕ) → Verdict
 writeVerdict rows columns offsets tiles text =
     gridVerdict rows columns
-    ▷ refuseIf (not (offsetsShaped (rows * columns) (constraints true offsets tiles))) 5 []
+    ▷ refuseIf (not (offsetsShaped (rows * columns) (lists offsets tiles))) 5 []
     ▷ refuseIf (ltb (length text) (bytesNeeded rows columns offsets tiles)) 9 (bytesNeeded rows columns offsets tiles ∷ [])
 
 abbrev pub writeAnswer : (rows columns : ℕ) → (offsets tiles text : List ℕ) → CountAnswer

@@ -4,7 +4,7 @@ ghost use mathlib.Core.Bool.{true};
 ghost use Prim.Native.Nat.{_*_};
 ghost use Rattle.units.specs.Refusals.{check, Prints};
 ghost use Rattle.units.specs.Answers.{countRefusal};
-ghost use Rattle.bay_lists.specs.Lists.{constraints, offsetsShaped};
+ghost use Rattle.bay_lists.specs.Lists.{offsetsShaped, lists};
 ghost use Rattle.sheet.specs.Write.{sheetBytes, bytesNeeded, writeVerdict, writeAnswer, textAfter};
 ghost use Rattle.sheet.specs.Room.{listsVerdict, Filled};
 use crate::grid::check_grid;
@@ -59,7 +59,7 @@ fn fill_text(
     tiles: &[u32],
     text: &mut [u8],
 ) -> CountAnswer
-    requires { ⌜ offsetsShaped (rows * columns) (constraints true (now offsets) (now tiles)) ≡ true ⌝ }
+    requires { ⌜ offsetsShaped (rows * columns) (lists (now offsets) (now tiles)) ≡ true ⌝ }
     ensures { λ r. ⌜ Filled (bytesNeeded rows columns (now (offsets .entry)) (now (tiles .entry))) (sheetBytes rows columns (now (offsets .entry)) (now (tiles .entry))) (now (text .entry)) r (now (text .exit)) ⌝ }
 {
     let need = sheet_length(rows, columns, offsets, tiles);

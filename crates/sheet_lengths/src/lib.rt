@@ -7,15 +7,15 @@ ghost use mathlib.Core.List.{_++_};
 ghost use Prim.Native.Nat.{_+_, _*_, _≤_};
 ghost use lib.ListN.{length};
 ghost use Rattle.text_put.specs.Puts.{numberText};
-ghost use Rattle.bay_lists.specs.Lists.{constraints, listOf, offsetsShaped};
+ghost use Rattle.bay_lists.specs.Lists.{listOf, offsetsShaped, lists};
 ghost use Rattle.sheet_text.specs.Written.{gap, spaced, separator, rowText, sheetText};
 ghost use Rattle.sheet_text.specs.Asked.{HasLists};
 ghost use Rattle.sheet_lengths.specs.Lengths.{capped};
 
 // The bytes of a grid's sheet.
 pub fn sheet_length(rows: usize, columns: usize, offsets: &[usize], tiles: &[u32]) -> usize
-    requires { ⌜ offsetsShaped (rows * columns) (constraints true (now offsets) (now tiles)) ≡ true ⌝ }
-    ensures { λ r. ⌜ r ≡ capped (length (sheetText (constraints true (now (offsets .entry)) (now (tiles .entry))) columns 0 rows)) ⌝ }
+    requires { ⌜ offsetsShaped (rows * columns) (lists (now offsets) (now tiles)) ≡ true ⌝ }
+    ensures { λ r. ⌜ r ≡ capped (length (sheetText (lists (now (offsets .entry)) (now (tiles .entry))) columns 0 rows)) ⌝ }
 {
     let mut total = 0;
     let mut bay = 0;
@@ -31,7 +31,7 @@ pub fn sheet_length(rows: usize, columns: usize, offsets: &[usize], tiles: &[u32
 // The bytes of the record of so many bays from one on.
 fn record_length(offsets: &[usize], tiles: &[u32], first: usize, columns: usize) -> usize
     requires { ⌜ HasLists (now offsets) (now tiles) (first + columns) ⌝ }
-    ensures { λ r. ⌜ r ≡ capped (length (rowText (constraints true (now (offsets .entry)) (now (tiles .entry))) first columns)) ⌝ }
+    ensures { λ r. ⌜ r ≡ capped (length (rowText (lists (now (offsets .entry)) (now (tiles .entry))) first columns)) ⌝ }
 {
     let mut total = 0;
     let mut bay = first;
@@ -48,7 +48,7 @@ fn record_length(offsets: &[usize], tiles: &[u32], first: usize, columns: usize)
 // The bytes of a bay's list.
 fn bay_length(offsets: &[usize], tiles: &[u32], bay: usize) -> usize
     requires { ⌜ HasLists (now offsets) (now tiles) (bay + 1) ⌝ }
-    ensures { λ r. ⌜ r ≡ capped (length (spaced 0 (listOf (constraints true (now (offsets .entry)) (now (tiles .entry))) bay))) ⌝ }
+    ensures { λ r. ⌜ r ≡ capped (length (spaced 0 (listOf (lists (now (offsets .entry)) (now (tiles .entry))) bay))) ⌝ }
 {
     let from = offsets[bay];
     let to = offsets[bay + 1];

@@ -6,8 +6,8 @@ use mathlib.Core.Path.{_≡_, refl}
 use native.Mathlib.Omega.{arith}
 use lib.ListN.{length, getD}
 use Rattle.text_entries.proofs.Bounds.{entry-starts, offset-within}
-use Rattle.bay_lists.specs.Lists.{Constraints, constraints, listOf, offsetsShaped}
-use Rattle.bay_lists.proofs.Restricting.{list-shape}
+use Rattle.bay_lists.specs.Lists.{Constraints, listOf, offsetsShaped, lists}
+use Rattle.bay_lists.proofs.Ends.{list-shape}
 use Rattle.text_put.specs.Puts.{Put}
 use Rattle.text_put.proofs.Putting.{Ending, ending-starts, ending-goes-on, ending-ends}
 use Rattle.sheet_text.specs.Written.{spaced, separator, rowText, sheetText}
@@ -17,9 +17,9 @@ use Rattle.sheet_text.proofs.Parts.{record-next, record-end, sheet-next
 -- ---- what the shape of the offsets gives
 
 module _ (offsets tiles : List ℕ) where
-  pub has-lists : (bays : ℕ) → offsetsShaped bays (constraints true offsets tiles) ≡ true → HasLists offsets tiles bays
+  pub has-lists : (bays : ℕ) → offsetsShaped bays (lists offsets tiles) ≡ true → HasLists offsets tiles bays
   has-lists bays e =
-      let shape = list-shape bays true offsets tiles refl e in
+      let shape = list-shape bays offsets tiles e in
       let count = shape .count in
       record { fit = shape .fit; enough = omega arith }
 

@@ -7,7 +7,7 @@ ghost use mathlib.Core.List.{_++_};
 ghost use Prim.Native.Nat.{_+_, _*_, _≤_};
 ghost use lib.ListN.{length};
 ghost use Rattle.text_put.specs.Puts.{Put, numberText};
-ghost use Rattle.bay_lists.specs.Lists.{constraints, listOf, offsetsShaped};
+ghost use Rattle.bay_lists.specs.Lists.{listOf, offsetsShaped, lists};
 ghost use Rattle.sheet_text.specs.Written.{gap, spaced, separator, rowText, sheetText};
 ghost use Rattle.sheet_text.specs.Asked.{HasLists};
 use text_put::put_number;
@@ -21,8 +21,8 @@ pub fn put_sheet(
     tiles: &[u32],
     text: &mut [u8],
 ) -> usize
-    requires { ⌜ offsetsShaped (rows * columns) (constraints true (now offsets) (now tiles)) ≡ true ⌝ }
-    ensures { λ r. ⌜ Put (now (text .entry)) 0 (sheetText (constraints true (now (offsets .entry)) (now (tiles .entry))) columns 0 rows) r (now (text .exit)) ⌝ }
+    requires { ⌜ offsetsShaped (rows * columns) (lists (now offsets) (now tiles)) ≡ true ⌝ }
+    ensures { λ r. ⌜ Put (now (text .entry)) 0 (sheetText (lists (now (offsets .entry)) (now (tiles .entry))) columns 0 rows) r (now (text .exit)) ⌝ }
 {
     let mut next = 0;
     let mut bay = 0;
@@ -46,7 +46,7 @@ fn put_record(
 ) -> usize
     requires { ⌜ HasLists (now offsets) (now tiles) (first + columns) ⌝ }
     requires { ⌜ at ≤ length (now text) ⌝ }
-    ensures { λ r. ⌜ Put (now (text .entry)) at (rowText (constraints true (now (offsets .entry)) (now (tiles .entry))) first columns) r (now (text .exit)) ⌝ }
+    ensures { λ r. ⌜ Put (now (text .entry)) at (rowText (lists (now (offsets .entry)) (now (tiles .entry))) first columns) r (now (text .exit)) ⌝ }
 {
     let mut next = at;
     let mut bay = first;
@@ -64,7 +64,7 @@ fn put_record(
 fn put_bay(offsets: &[usize], tiles: &[u32], bay: usize, text: &mut [u8], at: usize) -> usize
     requires { ⌜ HasLists (now offsets) (now tiles) (bay + 1) ⌝ }
     requires { ⌜ at ≤ length (now text) ⌝ }
-    ensures { λ r. ⌜ Put (now (text .entry)) at (spaced 0 (listOf (constraints true (now (offsets .entry)) (now (tiles .entry))) bay)) r (now (text .exit)) ⌝ }
+    ensures { λ r. ⌜ Put (now (text .entry)) at (spaced 0 (listOf (lists (now (offsets .entry)) (now (tiles .entry))) bay)) r (now (text .exit)) ⌝ }
 {
     let from = offsets[bay];
     let to = offsets[bay + 1];

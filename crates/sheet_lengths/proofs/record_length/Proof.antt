@@ -1,8 +1,7 @@
 -- `record_length` meets its contract: the invariant is that what is left of the record is still to be added. Assumes nothing.
 use Prim.Native.Nat.{_+_, _-_}
-use mathlib.Core.Bool.{true}
 use native.Mathlib.Omega.{arith}
-use Rattle.bay_lists.specs.Lists.{constraints, listOf}
+use Rattle.bay_lists.specs.Lists.{listOf, lists}
 use Rattle.sheet_text.specs.Written.{spaced, separator}
 use Rattle.sheet_text.proofs.Turns.{fewer-lists}
 use Rattle.sheet_lengths.proofs.Sums.{sum-of-two, RowSum, row-starts, row-goes-on, row-ends}
@@ -11,13 +10,13 @@ use Rattle.sheet_lengths.proofs.record_length.Statement.{statement}
 use Rattle.sheet_lengths.proofs.record_length.Tie as tie
 
 abbrev Inv-loop : tie.InvT-loop
-Inv-loop offsets tiles first columns total₀ bay₀ left₀ total bay left = RowSum (constraints true offsets tiles) first columns total bay left
+Inv-loop offsets tiles first columns total₀ bay₀ left₀ total bay left = RowSum (lists offsets tiles) first columns total bay left
 
 abbrev μ-loop : tie.MeasureT-loop
 μ-loop offsets tiles first columns total₀ bay₀ left₀ total bay left = left
 
 loop-holds : tie.Need-loop-holds Inv-loop μ-loop
-loop-holds c = let a = c .before .before .args in row-starts (constraints true (a .offsets .now) (a .tiles .now)) (a .first) (a .columns)
+loop-holds c = let a = c .before .before .args in row-starts (lists (a .offsets .now) (a .tiles .now)) (a .first) (a .columns)
 
 sub-left : tie.Need-sub-left Inv-loop μ-loop
 sub-left c = c .loop-test .taken
@@ -58,18 +57,18 @@ loop-again c =
     let turn = field .before in
     let l = turn .before in
     let a = l .before .before .before .args in
-    let lists = constraints true (a .offsets .now) (a .tiles .now) in
+    let own = lists (a .offsets .now) (a .tiles .now) in
     let two =
-    sum-of-two (spaced 0 (listOf lists (l .loop .bay))) (separator (l .loop .left - 1)) (field .bay-length .result) (comma .separator-length .result) (both .capped-sum .result)
+    sum-of-two (spaced 0 (listOf own (l .loop .bay))) (separator (l .loop .left - 1)) (field .bay-length .result) (comma .separator-length .result) (both .capped-sum .result)
     (field .bay-length .ensures) (comma .separator-length .ensures) (both .capped-sum .ensures) in
-    row-goes-on lists (a .first) (a .columns) (l .loop .total) (l .loop .bay) (l .loop .left) (l .loop .inv) (turn .loop-test .taken) (both .capped-sum .result) (c .capped-sum2 .result) two
+    row-goes-on own (a .first) (a .columns) (l .loop .total) (l .loop .bay) (l .loop .left) (l .loop .inv) (turn .loop-test .taken) (both .capped-sum .result) (c .capped-sum2 .result) two
     (c .capped-sum2 .ensures)
 
 returns : tie.Need-returns Inv-loop μ-loop
 returns c =
     let l = c .before in
     let a = l .before .before .before .args in
-    row-ends (constraints true (a .offsets .now) (a .tiles .now)) (a .first) (a .columns) (l .loop .total) (l .loop .bay) (l .loop .left) (l .loop .inv) (c .loop-test .left)
+    row-ends (lists (a .offsets .now) (a .tiles .now)) (a .first) (a .columns) (l .loop .total) (l .loop .bay) (l .loop .left) (l .loop .inv) (c .loop-test .left)
 
 pub record-length-spec : {M : Type 1} → statement M
 record-length-spec =

@@ -1,8 +1,7 @@
 -- `sheet_length` meets its contract: the invariant is that what is left of the sheet is still to be added. Assumes nothing.
 use Prim.Native.Nat.{_+_, _*_}
-use mathlib.Core.Bool.{true}
 use native.Mathlib.Omega.{arith}
-use Rattle.bay_lists.specs.Lists.{constraints}
+use Rattle.bay_lists.specs.Lists.{lists}
 use Rattle.sheet_text.proofs.Parts.{row-within}
 use Rattle.sheet_text.proofs.Turns.{has-lists, fewer-lists}
 use Rattle.sheet_lengths.proofs.Sums.{SheetSum, sheet-starts, sheet-goes-on, sheet-ends}
@@ -11,13 +10,13 @@ use Rattle.sheet_lengths.proofs.sheet_length.Statement.{statement}
 use Rattle.sheet_lengths.proofs.sheet_length.Tie as tie
 
 abbrev Inv-loop : tie.InvT-loop
-Inv-loop rows columns offsets tiles total₀ bay₀ left₀ total bay left = SheetSum (constraints true offsets tiles) rows columns total bay left
+Inv-loop rows columns offsets tiles total₀ bay₀ left₀ total bay left = SheetSum (lists offsets tiles) rows columns total bay left
 
 abbrev μ-loop : tie.MeasureT-loop
 μ-loop rows columns offsets tiles total₀ bay₀ left₀ total bay left = left
 
 loop-holds : tie.Need-loop-holds Inv-loop μ-loop
-loop-holds c = let a = c .before .before .args in sheet-starts (constraints true (a .offsets .now) (a .tiles .now)) (a .rows) (a .columns)
+loop-holds c = let a = c .before .before .args in sheet-starts (lists (a .offsets .now) (a .tiles .now)) (a .rows) (a .columns)
 
 record-length-requires : tie.Need-record-length-requires Inv-loop μ-loop
 record-length-requires c κs =
@@ -53,14 +52,14 @@ loop-again c =
     let turn = one .before in
     let l = turn .before in
     let a = l .before .before .before .args in
-    sheet-goes-on (constraints true (a .offsets .now) (a .tiles .now)) (a .rows) (a .columns) (l .loop .total) (l .loop .bay) (l .loop .left) (l .loop .inv) (turn .loop-test .taken)
+    sheet-goes-on (lists (a .offsets .now) (a .tiles .now)) (a .rows) (a .columns) (l .loop .total) (l .loop .bay) (l .loop .left) (l .loop .inv) (turn .loop-test .taken)
     (one .record-length .result) (c .capped-sum .result) (one .record-length .ensures) (c .capped-sum .ensures)
 
 returns : tie.Need-returns Inv-loop μ-loop
 returns c =
     let l = c .before in
     let a = l .before .before .before .args in
-    sheet-ends (constraints true (a .offsets .now) (a .tiles .now)) (a .rows) (a .columns) (l .loop .total) (l .loop .bay) (l .loop .left) (l .loop .inv) (c .loop-test .left)
+    sheet-ends (lists (a .offsets .now) (a .tiles .now)) (a .rows) (a .columns) (l .loop .total) (l .loop .bay) (l .loop .left) (l .loop .inv) (c .loop-test .left)
 
 pub sheet-length-spec : {M : Type 1} → statement M
 sheet-length-spec =

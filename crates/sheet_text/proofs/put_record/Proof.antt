@@ -1,8 +1,7 @@
 -- `put_record` meets its contract: the invariant is that what is left of the record ends it. Assumes nothing.
 use Prim.Native.Nat.{_+_}
-use mathlib.Core.Bool.{true}
 use native.Mathlib.Omega.{arith}
-use Rattle.bay_lists.specs.Lists.{constraints}
+use Rattle.bay_lists.specs.Lists.{lists}
 use Rattle.text_put.proofs.Putting.{then-put}
 use Rattle.sheet_text.proofs.Turns.{fewer-lists, Row, row-starts, row-goes-on, row-ends}
 use borrow.Author.Needs.{needs}
@@ -10,7 +9,7 @@ use Rattle.sheet_text.proofs.put_record.Statement.{statement}
 use Rattle.sheet_text.proofs.put_record.Tie as tie
 
 abbrev Inv-loop : tie.InvT-loop
-Inv-loop offsets tiles first columns text₀ at next₀ bay₀ left₀ text next bay left = Row (constraints true offsets tiles) first columns text₀ at text next bay left
+Inv-loop offsets tiles first columns text₀ at next₀ bay₀ left₀ text next bay left = Row (lists offsets tiles) first columns text₀ at text next bay left
 
 abbrev μ-loop : tie.MeasureT-loop
 μ-loop offsets tiles first columns text₀ at next₀ bay₀ left₀ text next bay left = left
@@ -19,7 +18,7 @@ loop-holds : tie.Need-loop-holds Inv-loop μ-loop
 loop-holds c =
     let start = c .before .before .before in
     let a = start .args in
-    row-starts (constraints true (a .offsets .now) (a .tiles .now)) (a .first) (a .columns) (a .text .now) (a .at) (start .pre .1)
+    row-starts (lists (a .offsets .now) (a .tiles .now)) (a .first) (a .columns) (a .text .now) (a .at) (start .pre .1)
 
 sub-left : tie.Need-sub-left Inv-loop μ-loop
 sub-left c = search needs
@@ -54,7 +53,7 @@ loop-again c =
     let turn = field .before .before in
     let l = turn .before in
     let a = l .before .before .before .before .args in
-    row-goes-on (constraints true (a .offsets .now) (a .tiles .now)) (a .first) (a .columns) (a .text .now) (a .at) (l .loop .text) (l .loop .next) (l .loop .bay) (l .loop .left) (l .loop .inv)
+    row-goes-on (lists (a .offsets .now) (a .tiles .now)) (a .first) (a .columns) (a .text .now) (a .at) (l .loop .text) (l .loop .next) (l .loop .bay) (l .loop .left) (l .loop .inv)
     (turn .loop-test .taken) (then-put (field .put-bay .ensures) (put .put-separator .ensures))
 
 same-length : tie.Need-same-length Inv-loop μ-loop
@@ -64,7 +63,7 @@ returns : tie.Need-returns Inv-loop μ-loop
 returns c =
     let l = c .before in
     let a = l .before .before .before .before .args in
-    row-ends (constraints true (a .offsets .now) (a .tiles .now)) (a .first) (a .columns) (a .text .now) (a .at) (l .loop .text) (l .loop .next) (l .loop .bay) (l .loop .left) (l .loop .inv) (c .loop-test .left)
+    row-ends (lists (a .offsets .now) (a .tiles .now)) (a .first) (a .columns) (a .text .now) (a .at) (l .loop .text) (l .loop .next) (l .loop .bay) (l .loop .left) (l .loop .inv) (c .loop-test .left)
 
 pub put-record-spec : {M : Type 1} → statement M
 put-record-spec =
