@@ -52,7 +52,7 @@ fn system_into(
         first_floats(entropy, read.entropy),
         first_floats(&logs, read.logs),
         first_small_numbers(&seeds, read.seeds),
-        lists.constrained,
+        lists.kind,
         first_numbers(&offsets, lists.offsets),
         first_small_numbers(&tiles, lists.tiles),
         layout_length(line, read.readable, lists.readable, bays(z)),

@@ -1,5 +1,6 @@
 // The call `allowed_tiles`: constraints are read, and the library is asked with a table of sevens.
 use crate::tables::all_long_numbers;
+use bay_lists::ConstraintKind;
 use bay_system::Sizes;
 use case_answer_lines::refused_with_tables;
 use case_answer_lines::unreadable;
@@ -30,7 +31,7 @@ fn sets_into(
     entropy: &[f64],
     logs: &[f64],
     seeds: &[u32],
-    constrained: bool,
+    kind: ConstraintKind,
     offsets: &[usize],
     tiles: &[u32],
     length: usize,
@@ -48,7 +49,7 @@ fn sets_into(
         entropy,
         logs,
         seeds,
-        constrained,
+        kind,
         offsets,
         tiles,
         &mut sets[..length],
@@ -92,7 +93,7 @@ pub(crate) fn answer_sets(
         entropy,
         logs,
         seeds,
-        read.constrained,
+        read.kind,
         first_numbers(&offsets, read.offsets),
         first_small_numbers(&tiles, read.tiles),
         sets_length(line, read.readable, bays(z)),

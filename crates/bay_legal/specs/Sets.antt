@@ -1,17 +1,15 @@
 -- The sets of all bays, one word a bay, and what is refused of them: 5 and 7 after 1 to 4. Assumes nothing.
 use Prim.Native.Nat.{ℕ, zero, suc, _*_}
-use mathlib.Core.Path.{_≡_}
-use mathlib.Core.Bool.{Bool, cond, not, _&&_}
+use mathlib.Core.Bool.{Bool, cond}
 use mathlib.Core.List.{List, [], _∷_, _++_}
 use lib.Dec.{eqb, ltb}
 use lib.ListN.{length, getD}
-use Rattle.units.specs.declared.Check.{Check}
-use Rattle.units.specs.Refusals.{Verdict, refuseIf, _▷_, check, ifPasses}
+use Rattle.units.specs.Refusals.{Verdict, refuseIf, _▷_, ifPasses}
 use Rattle.sets.specs.Set.{word}
-use Rattle.bay_system.specs.declared.sizes.Sizes.{Sizes}
-use Rattle.bay_system.specs.System.{System, systemVerdict}
-use Rattle.bay_lists.specs.Lists.{Constraints, offsetsShaped}
+use Rattle.bay_system.specs.System.{System}
+use Rattle.bay_lists.specs.Lists.{Constraints}
 use Rattle.bay_legal_at.specs.Legal.{isLegal}
+use Rattle.bay_given.specs.Given.{givenVerdict}
 use Rattle.bay_scan_order.specs.Scan.{bayAt}
 pub use Rattle.bay_system.specs.System.{bays}
 
@@ -23,10 +21,6 @@ setsTo legal (suc n) = setsTo legal n ++ (word (legal n) 64 ∷ [])
 abbrev pub setsOf : System → Constraints → List ℕ
 setsOf s c = setsTo (isLegal s c) (bays (s .sizes))
 
--- 5: the slice lent for the sets, or the constraint offsets, have the wrong shape
-abbrev pub shapeVerdict : Sizes → (lent : ℕ) → Constraints → Verdict
-shapeVerdict z lent c = refuseIf (not (eqb lent (bays z) && offsetsShaped (bays z) c)) 5 []
-
 -- the number, in scan order, of the first of k bays from number i on whose set is empty; the number after them where none is
 unfoldable pub firstEmpty : (rows cols : ℕ) → (sets : List ℕ) → (i k : ℕ) → ℕ
 firstEmpty rows cols sets i zero = i
@@ -37,16 +31,10 @@ abbrev pub emptyVerdict : (rows cols : ℕ) → (sets : List ℕ) → Verdict
 emptyVerdict rows cols sets =
     let found = firstEmpty rows cols sets 0 (rows * cols) in refuseIf (ltb found (rows * cols)) 7 (bayAt rows cols found ∷ [])
 
--- 1 to 4, then 5, then 7
+-- 1 to 5, then 7
 abbrev pub allowedVerdict : System → (lent : ℕ) → Constraints → Verdict
-allowedVerdict s lent c =
-    systemVerdict s ▷ shapeVerdict (s .sizes) lent c ▷ emptyVerdict (s .sizes .rows) (s .sizes .cols) (setsOf s c)
+allowedVerdict s lent c = givenVerdict s lent c ▷ emptyVerdict (s .sizes .rows) (s .sizes .cols) (setsOf s c)
 
 -- what the lent slice holds afterwards
 abbrev pub setsAfter : System → Constraints → (lent : List ℕ) → List ℕ
 setsAfter s c lent = ifPasses (allowedVerdict s (length lent) c) (setsOf s c) lent
-
--- the last link alone, as the code takes it: its answer, and what the slice holds
-pub record Worked (rows cols : ℕ) (sets : List ℕ) (r : Check) (old new : List ℕ) : Type 0 where
-  pub answer : r ≡ check (emptyVerdict rows cols sets)
-  pub holds : new ≡ ifPasses (emptyVerdict rows cols sets) sets old

@@ -1,18 +1,20 @@
 // The sets of all bays in a table of the caller's, and the first bay that has none.
 ghost use mathlib.Core.Path.{_≡_};
-ghost use mathlib.Core.Bool.{true};
+ghost use mathlib.Core.List.{[]};
 ghost use Prim.Native.Nat.{_*_, _≤_};
 ghost use lib.ListN.{length, take, drop};
+ghost use Rattle.units.specs.Limits.{mostSide};
 ghost use Rattle.units.specs.Refusals.{check};
-ghost use Rattle.bay_legal_at.specs.Legal.{legalAt};
-ghost use Rattle.bay_lists.specs.Lists.{constraints, offsetsShaped};
-ghost use Rattle.bay_legal_at.specs.OnGrid.{Grid};
+ghost use Rattle.bay_system.specs.System.{system};
+ghost use Rattle.bay_legal_at.specs.Legal.{isLegal};
+ghost use Rattle.bay_lists.specs.Lists.{byOffsets};
+ghost use Rattle.bay_given.specs.Given.{Given};
 ghost use Rattle.bay_legal.specs.Sets.{setsTo, firstEmpty, emptyVerdict};
 use bay_legal_at::constrained_allowed_tiles_at;
 use bay_scan_order::bay_at;
 use bay_system::Sizes;
 use units::Check;
-use units::Refusal;
+use units::refused_with;
 
 // Writes the sets of all bays, row by row, to the front of a table; the rest of it stays.
 pub fn fill_sets(
@@ -22,15 +24,16 @@ pub fn fill_sets(
     delta_g: &[f64],
     entropy: &[f64],
     seeds: &[u32],
-    constrained: bool,
     offsets: &[usize],
     tiles: &[u32],
     sets: &mut [u64],
 )
-    requires { ⌜ Grid z (now «strand_glues») (now scaffold) (now «delta_g») (now entropy) (now seeds) ⌝ }
-    requires { ⌜ offsetsShaped (length (now scaffold)) (constraints constrained (now offsets) (now tiles)) ≡ true ⌝ }
+    requires { ⌜ Given z (now «strand_glues») (now scaffold) (now «delta_g») (now entropy) (now seeds) (byOffsets (now offsets) (now tiles)) ⌝ }
     requires { ⌜ length (now scaffold) ≤ length (now sets) ⌝ }
-    ensures sets { λ _. ⌜ take (length (now (scaffold .entry))) (now (sets .exit)) ≡ setsTo (legalAt z (now («strand_glues» .entry)) (now (scaffold .entry)) (now («delta_g» .entry)) (now (entropy .entry)) (now (seeds .entry)) (constraints constrained (now (offsets .entry)) (now (tiles .entry)))) (length (now (scaffold .entry))) ⌝ }
+    ensures sets { λ _. let s = system z (now («strand_glues» .entry)) (now (scaffold .entry)) (now («delta_g» .entry)) (now (entropy .entry)) [] (now (seeds .entry)) in
+        let c = byOffsets (now (offsets .entry)) (now (tiles .entry)) in
+        let bay-count = length (now (scaffold .entry)) in
+        ⌜ take bay-count (now (sets .exit)) ≡ setsTo (isLegal s c) bay-count ⌝ }
     ensures rest { λ _. ⌜ drop (length (now (scaffold .entry))) (now (sets .exit)) ≡ drop (length (now (scaffold .entry))) (now (sets .entry)) ⌝ }
 {
     let mut bay = 0;
@@ -42,7 +45,6 @@ pub fn fill_sets(
             delta_g,
             entropy,
             seeds,
-            constrained,
             offsets,
             tiles,
             bay,
@@ -53,7 +55,7 @@ pub fn fill_sets(
 
 // The number, in scan order, of the first bay whose set is empty, or the number of bays.
 fn first_empty(rows: usize, cols: usize, sets: &[u64]) -> usize
-    requires { ⌜ (rows ≤ 32) × (cols ≤ 32) × (length (now sets) ≡ rows * cols) ⌝ }
+    requires { ⌜ (rows ≤ mostSide) × (cols ≤ mostSide) × (length (now sets) ≡ rows * cols) ⌝ }
     ensures { λ r. ⌜ r ≡ firstEmpty rows cols (now (sets .entry)) 0 (rows * cols) ⌝ }
 {
     let mut k = 0;
@@ -68,52 +70,12 @@ fn first_empty(rows: usize, cols: usize, sets: &[u64]) -> usize
 
 // Refusal 7.
 pub fn check_empty(rows: usize, cols: usize, sets: &[u64]) -> Check
-    requires { ⌜ (rows ≤ 32) × (cols ≤ 32) × (length (now sets) ≡ rows * cols) ⌝ }
+    requires { ⌜ (rows ≤ mostSide) × (cols ≤ mostSide) × (length (now sets) ≡ rows * cols) ⌝ }
     ensures { λ r. ⌜ r ≡ check (emptyVerdict rows cols (now (sets .entry))) ⌝ }
 {
     let found = first_empty(rows, cols, sets);
     if found < sets.len() {
-        return Check::Refused(Refusal {
-            number: 7,
-            first: bay_at(rows, cols, found),
-            second: 0,
-        });
+        return refused_with(7, bay_at(rows, cols, found));
     }
     Check::Passed
-}
-
-// Writes the sets of a system that passed its tests to the front of a table, the rest of which stays, and refuses 7.
-pub fn grid_sets(
-    z: Sizes,
-    strand_glues: &[u32],
-    scaffold: &[u32],
-    delta_g: &[f64],
-    entropy: &[f64],
-    seeds: &[u32],
-    constrained: bool,
-    offsets: &[usize],
-    tiles: &[u32],
-    sets: &mut [u64],
-) -> Check
-    requires { ⌜ Grid z (now «strand_glues») (now scaffold) (now «delta_g») (now entropy) (now seeds) ⌝ }
-    requires { ⌜ offsetsShaped (length (now scaffold)) (constraints constrained (now offsets) (now tiles)) ≡ true ⌝ }
-    requires { ⌜ (z .rows ≤ 32) × (z .cols ≤ 32) × (length (now scaffold) ≡ z .rows * z .cols) ⌝ }
-    requires { ⌜ length (now scaffold) ≤ length (now sets) ⌝ }
-    ensures sets { λ _. ⌜ take (length (now (scaffold .entry))) (now (sets .exit)) ≡ setsTo (legalAt z (now («strand_glues» .entry)) (now (scaffold .entry)) (now («delta_g» .entry)) (now (entropy .entry)) (now (seeds .entry)) (constraints constrained (now (offsets .entry)) (now (tiles .entry)))) (length (now (scaffold .entry))) ⌝ }
-    ensures answer { λ r. ⌜ r ≡ check (emptyVerdict (z .rows) (z .cols) (setsTo (legalAt z (now («strand_glues» .entry)) (now (scaffold .entry)) (now («delta_g» .entry)) (now (entropy .entry)) (now (seeds .entry)) (constraints constrained (now (offsets .entry)) (now (tiles .entry)))) (length (now (scaffold .entry))))) ⌝ }
-    ensures rest { λ _. ⌜ drop (length (now (scaffold .entry))) (now (sets .exit)) ≡ drop (length (now (scaffold .entry))) (now (sets .entry)) ⌝ }
-{
-    fill_sets(
-        z,
-        strand_glues,
-        scaffold,
-        delta_g,
-        entropy,
-        seeds,
-        constrained,
-        offsets,
-        tiles,
-        sets,
-    );
-    check_empty(z.rows, z.cols, &sets[..scaffold.len()])
 }

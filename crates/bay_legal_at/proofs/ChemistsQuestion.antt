@@ -8,25 +8,24 @@ use native.Mathlib.Omega.{arith}
 use lib.Dec.{eqb, ltb}
 use lib.ListN.{getD}
 use borrow.Author.Tests.{lt-ltb, eqb-true, eq-eqb}
+use Rattle.units.specs.Limits.{mostStrands}
+use Rattle.units.proofs.Tests.{and-false}
 use Rattle.sets.proofs.Words.{word-same}
 use Rattle.sets.proofs.Operations.{word-none, word-only}
 use Rattle.bay_system.specs.System.{System}
 use Rattle.bay_legal_at.specs.declared.seeds.Seed.{Seed}
 use Rattle.bay_legal_at.specs.declared.seeds.Seed.the-variants.{Unseeded, Seeded}
-use Rattle.bay_lists.specs.Lists.{Constraints, constraints, names, listAllows, listOf}
-use Rattle.bay_legal_at.specs.Legal.{seedAt, permits, isLegal, setAt}
-
-and-false : (a : Bool) → (a && false) ≡ false
-and-false true = refl
-and-false false = refl
+use Rattle.bay_lists.specs.declared.ConstraintKind.the-variants.{Absent}
+use Rattle.bay_lists.specs.Lists.{Constraints, absent, lists, constraints, names, listAllows, listOf}
+use Rattle.bay_legal_at.specs.Legal.{seedOf, permits, isLegal, setAt}
 
 module _ (s : System) (c : Constraints) (bay : ℕ) where
   -- the seed that the bay has, or none
   abbrev seed : Seed
-  seed = seedAt (s .sizes .cols) (s .seeds) bay
+  seed = seedOf s bay
 
   abbrev onSeed : Seed → ℕ → Bool
-  onSeed x t = ltb t (s .sizes .strands) && permits (s .sizes) (s .strandGlues) (s .scaffold) (s .deltaG) (s .entropy) bay x t
+  onSeed x t = ltb t (s .sizes .strands) && permits s bay x t
 
   -- an unseeded bay with the list 0 stays empty: its set is {0}, the number 1
   pub keep-it-empty : seed ≡ Unseeded → 1 ≤ s .sizes .strands → listOf c bay ≡ 0 ∷ [] → setAt s c bay ≡ 1
@@ -44,10 +43,9 @@ module _ (s : System) (c : Constraints) (bay : ℕ) where
       only-zero t false e = ap (λ (b : Bool). onSeed Unseeded t && (b || false)) e ∙ and-false (onSeed Unseeded t) ∙ sym e
 
   -- a bay with an empty list has the set that it has without constraints
-  pub no-restriction : listOf c bay ≡ [] → (offsets tiles : List ℕ) → setAt s c bay ≡ setAt s (constraints false offsets tiles) bay
-  no-restriction l offsets tiles =
-      word-same (isLegal s c bay) (isLegal s (constraints false offsets tiles) bay) 64
-      (λ t h. ap (λ (xs : List ℕ). onSeed seed t && listAllows xs t) l)
+  pub no-restriction : listOf c bay ≡ [] → setAt s c bay ≡ setAt s absent bay
+  no-restriction l =
+      word-same (isLegal s c bay) (isLegal s absent bay) 64 (λ t h. ap (λ (xs : List ℕ). onSeed seed t && listAllows xs t) l)
 
   -- a seeded bay has its seed alone, or nothing where the list leaves the seed out
   module _ (strand : ℕ) (known : seed ≡ Seeded strand) (below : strand < s .sizes .strands) where
@@ -60,15 +58,16 @@ module _ (s : System) (c : Constraints) (bay : ℕ) where
         at true k false e = rw (e, and-false (ltb t (s .sizes .strands)))
         at false k false e = rw (e, and-false (ltb t (s .sizes .strands)))
 
-    pub seed-alone : s .sizes .strands ≤ 64 → listAllows (listOf c bay) strand ≡ true → setAt s c bay ≡ 2 ^ strand
+    pub seed-alone : s .sizes .strands ≤ mostStrands → listAllows (listOf c bay) strand ≡ true → setAt s c bay ≡ 2 ^ strand
     seed-alone few k = word-same (isLegal s c bay) (λ t. eqb t strand) 64 (λ t h. seed-or-none true k t) ∙ word-only 64 strand (lt-of-lt-of-le below few)
 
     pub seed-left-out : listAllows (listOf c bay) strand ≡ false → setAt s c bay ≡ 0
     seed-left-out k = word-same (isLegal s c bay) (λ t. false) 64 (λ t h. seed-or-none false k t) ∙ word-none 64
 
--- a bay has an empty list where its two offsets are equal, and where there are no constraints
-pub empty-list : (offsets tiles : List ℕ) (bay : ℕ) → getD offsets bay 0 ≡ getD offsets (bay + 1) 0 → listOf (constraints true offsets tiles) bay ≡ []
+-- a bay has an empty list where its two offsets are equal
+pub empty-list : (offsets tiles : List ℕ) (bay : ℕ) → getD offsets bay 0 ≡ getD offsets (bay + 1) 0 → listOf (lists offsets tiles) bay ≡ []
 empty-list offsets tiles bay e = rw (e, sub-self (getD offsets (bay + 1) 0))
 
-pub no-list : (offsets tiles : List ℕ) (bay : ℕ) → listOf (constraints false offsets tiles) bay ≡ []
+-- and where there are no constraints, whatever the two slices hold
+pub no-list : (offsets tiles : List ℕ) (bay : ℕ) → listOf (constraints Absent offsets tiles) bay ≡ []
 no-list offsets tiles bay = refl

@@ -1,4 +1,5 @@
 -- What the inner functions ask of a system that passed its tests. Assumes nothing.
+use Rattle.units.specs.Limits.{mostSide}
 use Rattle.energy_bonds.specs.Readable.{Readable}
 use Rattle.bay_system.specs.declared.sizes.Sizes.{Sizes}
 use Rattle.bay_legal_at.specs.declared.seeds.Seed.{Seed}
@@ -19,7 +20,7 @@ Below limit (Seeded strand) = strand < limit
 pub record OnGrid (z : Sizes) (scaffold seeds : List ℕ) (bay : ℕ) : Type 0 where
   pub inside : bay < length scaffold
   pub glue : getD scaffold bay 0 < z .glues
-  pub few-cols : z .cols ≤ 32
+  pub few-cols : z .cols ≤ mostSide
   pub triples : length seeds % 3 ≡ 0
   pub seed : Below (z .strands) (seedAt (z .cols) seeds bay)
 

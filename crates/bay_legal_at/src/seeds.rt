@@ -4,6 +4,7 @@ ghost use Prim.Native.Nat.{_%_, _≤_, _<_, _+_, _*_};
 ghost use lib.ListN.{length};
 ghost use lib.Dec.{eqb};
 ghost use mathlib.Core.Bool.{cond};
+ghost use Rattle.units.specs.Limits.{mostSide};
 ghost use Rattle.bay_legal_at.specs.Legal.{later, seedAt};
 
 pub enum Seed {
@@ -23,7 +24,7 @@ fn after_seed(found: Seed, at: usize, strand: u32, bay: usize) -> Seed
 
 // The last seed on a bay.
 pub fn seed_at(cols: usize, seeds: &[u32], bay: usize) -> Seed
-    requires { ⌜ (length (now seeds) % 3 ≡ 0) × (cols ≤ 32) ⌝ }
+    requires { ⌜ (length (now seeds) % 3 ≡ 0) × (cols ≤ mostSide) ⌝ }
     ensures { λ r. ⌜ r ≡ seedAt cols (now (seeds .entry)) bay ⌝ }
 {
     let mut found = Seed::Unseeded;

@@ -1,12 +1,14 @@
 // The set of one bay.
 ghost use mathlib.Core.Path.{_≡_};
 ghost use mathlib.Core.Bool.{true};
+ghost use mathlib.Core.List.{[]};
 ghost use lib.ListN.{length};
 ghost use Rattle.sets.specs.Set.{word};
+ghost use Rattle.bay_system.specs.System.{system};
 ghost use Rattle.energy_bonds.specs.Readable.{Readable};
 ghost use Rattle.bay_legal_at.specs.OnGrid.{OnGrid};
-ghost use Rattle.bay_legal_at.specs.Legal.{permitted, legalAt};
-ghost use Rattle.bay_lists.specs.Lists.{constraints, offsetsShaped};
+ghost use Rattle.bay_legal_at.specs.Legal.{isPermitted, setAt};
+ghost use Rattle.bay_lists.specs.Lists.{byOffsets, offsetsShaped};
 use crate::seeds::Seed;
 use crate::seeds::seed_at;
 use bay_binding::friends_btm;
@@ -14,7 +16,7 @@ use bay_lists::restricted;
 use bay_system::Sizes;
 
 // The strands that a bay permits without constraints: its seed, else what may lie there.
-fn base_allowed_tiles_at(
+pub fn base_allowed_tiles_at(
     z: Sizes,
     strand_glues: &[u32],
     scaffold: &[u32],
@@ -25,7 +27,8 @@ fn base_allowed_tiles_at(
 ) -> u64
     requires { ⌜ Readable (z .strands) (z .glues) (now «strand_glues») (now «delta_g») (now entropy) ⌝ }
     requires { ⌜ OnGrid z (now scaffold) (now seeds) bay ⌝ }
-    ensures { λ r. ⌜ r ≡ word (permitted z (now («strand_glues» .entry)) (now (scaffold .entry)) (now («delta_g» .entry)) (now (entropy .entry)) (now (seeds .entry)) bay) 64 ⌝ }
+    ensures { λ r. let s = system z (now («strand_glues» .entry)) (now (scaffold .entry)) (now («delta_g» .entry)) (now (entropy .entry)) [] (now (seeds .entry)) in
+        ⌜ r ≡ word (isPermitted s bay) 64 ⌝ }
 {
     match seed_at(z.cols, seeds, bay) {
         Seed::Seeded(strand) => sets::only(strand),
@@ -44,16 +47,16 @@ pub fn constrained_allowed_tiles_at(
     delta_g: &[f64],
     entropy: &[f64],
     seeds: &[u32],
-    constrained: bool,
     offsets: &[usize],
     tiles: &[u32],
     bay: usize,
 ) -> u64
     requires { ⌜ Readable (z .strands) (z .glues) (now «strand_glues») (now «delta_g») (now entropy) ⌝ }
     requires { ⌜ OnGrid z (now scaffold) (now seeds) bay ⌝ }
-    requires { ⌜ offsetsShaped (length (now scaffold)) (constraints constrained (now offsets) (now tiles)) ≡ true ⌝ }
-    ensures { λ r. ⌜ r ≡ word (legalAt z (now («strand_glues» .entry)) (now (scaffold .entry)) (now («delta_g» .entry)) (now (entropy .entry)) (now (seeds .entry)) (constraints constrained (now (offsets .entry)) (now (tiles .entry))) bay) 64 ⌝ }
+    requires { ⌜ offsetsShaped (length (now scaffold)) (byOffsets (now offsets) (now tiles)) ≡ true ⌝ }
+    ensures { λ r. let s = system z (now («strand_glues» .entry)) (now (scaffold .entry)) (now («delta_g» .entry)) (now (entropy .entry)) [] (now (seeds .entry)) in
+        ⌜ r ≡ setAt s (byOffsets (now (offsets .entry)) (now (tiles .entry))) bay ⌝ }
 {
     let permitted = base_allowed_tiles_at(z, strand_glues, scaffold, delta_g, entropy, seeds, bay);
-    restricted(permitted, scaffold.len(), constrained, offsets, tiles, bay)
+    restricted(permitted, scaffold.len(), offsets, tiles, bay)
 }

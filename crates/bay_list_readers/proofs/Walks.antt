@@ -1,14 +1,13 @@
 -- A list gone through from its start, by one number. Assumes nothing.
 use Prim.Native.Nat.{ℕ, _+_, _≤_, _<_}
-use mathlib.Core.Path.{_≡_, refl, sym}
+use mathlib.Core.Path.{_≡_, sym}
 use mathlib.Core.Bool.{true, false}
-use mathlib.Core.List.{List, [], _∷_}
+use mathlib.Core.List.{List}
 use native.Mathlib.Numerals.{add-one}
-use native.Mathlib.Omega.{arith}
 use lib.ListN.{length, getD, drop, drop-of-length-le}
 use lib.Seq.{drop-cons}
 use borrow.Author.Tests.{eq-eqb, ne-eqb}
-use Rattle.bay_lists.specs.Lists.{names, listAllows}
+use Rattle.bay_lists.specs.Lists.{names}
 use Rattle.bay_list_readers.specs.Reading.{onlyZeros}
 
 module _ (list : List ℕ) (i : ℕ) where
@@ -38,12 +37,3 @@ module _ (list : List ℕ) (i : ℕ) where
     pub none-named : length list ≤ i → names (drop i list) strand ≡ false
     unfolding names
     none-named h = rw (drop-of-length-le list h)
-
--- an empty list allows every strand, another those that it names
-pub empty-allows : (list : List ℕ) (strand : ℕ) → length list ≡ 0 → true ≡ listAllows list strand
-empty-allows [] strand e = refl
-empty-allows (x ∷ list) strand e = absurd (omega arith)
-
-pub some-names : (list : List ℕ) (strand : ℕ) → (length list ≡ 0 → ⊥) → names list strand ≡ listAllows list strand
-some-names [] strand n = absurd (n refl)
-some-names (x ∷ list) strand n = refl

@@ -1,39 +1,7 @@
-// A bay's list as a slice of the tiles, and what is asked of it: whether it allows a strand, and whether it names nothing but 0.
+// What is asked of a bay's list: whether it allows a strand, and whether it names nothing but 0.
 ghost use mathlib.Core.Path.{_≡_};
-ghost use mathlib.Core.Bool.{true};
-ghost use Prim.Native.Nat.{_<_};
-ghost use Rattle.bay_lists.specs.Lists.{offsetsShaped, constraints, listOf, names, listAllows};
-ghost use Rattle.bay_list_readers.specs.Reading.{offsetAt, onlyZeros};
-
-// Where the list of bay i begins and that of the bay before it ends: 0 where there are no constraints, and past the last offset.
-pub fn offset_at(constrained: bool, offsets: &[usize], i: usize) -> usize
-    ensures { λ r. ⌜ r ≡ offsetAt constrained (now (offsets .entry)) i ⌝ }
-{
-    if !constrained {
-        return 0;
-    }
-    if offsets.len() <= i {
-        return 0;
-    }
-    offsets[i]
-}
-
-// The list of a bay, which is empty where there are no constraints.
-pub fn bay_list<'a>(
-    bays: usize,
-    constrained: bool,
-    offsets: &[usize],
-    tiles: &'a [u32],
-    bay: usize,
-) -> &'a [u32]
-    requires { ⌜ offsetsShaped bays (constraints constrained (now offsets) (now tiles)) ≡ true ⌝ }
-    requires { ⌜ bay < bays ⌝ }
-    ensures { λ r. ⌜ now r ≡ listOf (constraints constrained (now (offsets .entry)) (now (tiles .entry))) bay ⌝ }
-{
-    let from = offset_at(constrained, offsets, bay);
-    let to = offset_at(constrained, offsets, bay + 1);
-    &tiles[from..to]
-}
+ghost use Rattle.bay_lists.specs.Lists.{names, listAllows};
+ghost use Rattle.bay_list_readers.specs.Reading.{onlyZeros};
 
 // Whether every number of a list is 0.
 pub fn only_zeros(list: &[u32]) -> bool

@@ -1,16 +1,34 @@
-// The lists that constrain bays: their shape, and what a bay's list keeps of a set of strands.
+// The lists that constrain bays: their shape, the list of a bay, and what it keeps of a set of strands.
 ghost use mathlib.Core.Path.{_≡_};
 ghost use mathlib.Core.Bool.{true, _&&_};
-ghost use Prim.Native.Nat.{_≤_, _<_};
+ghost use Prim.Native.Nat.{_≤_, _<_, _*_};
+ghost use lib.ListN.{getD};
+ghost use Rattle.units.specs.Limits.{mostSide};
 ghost use Rattle.sets.specs.Set.{has, word};
-ghost use Rattle.bay_lists.specs.Lists.{names, offsetsShaped, constraints, listOf, listAllows};
+ghost use Rattle.bay_lists.specs.Lists.{names, hasLists, offsetsShaped, constraints, offsetsRead, byOffsets, listOf, listAllows};
+
+// Whether bays have lists. Beside absent ones the slices of offsets and tiles are not read.
+pub enum ConstraintKind {
+    Absent,
+    Lists,
+}
+
+// Which kinds have lists: the one place that tells them apart.
+fn has_lists(kind: ConstraintKind) -> bool
+    ensures { λ r. ⌜ r ≡ hasLists kind ⌝ }
+{
+    match kind {
+        ConstraintKind::Absent => false,
+        ConstraintKind::Lists => true,
+    }
+}
 
 // Whether constraint offsets, where there are any, have the right shape.
-pub fn offsets_shaped(bays: usize, constrained: bool, offsets: &[usize], tiles: &[u32]) -> bool
-    requires { ⌜ bays ≤ 1024 ⌝ }
-    ensures { λ r. ⌜ r ≡ offsetsShaped bays (constraints constrained (now (offsets .entry)) (now (tiles .entry))) ⌝ }
+pub fn offsets_shaped(bays: usize, kind: ConstraintKind, offsets: &[usize], tiles: &[u32]) -> bool
+    requires { ⌜ bays ≤ mostSide * mostSide ⌝ }
+    ensures { λ r. ⌜ r ≡ offsetsShaped bays (constraints kind (now (offsets .entry)) (now (tiles .entry))) ⌝ }
 {
-    if !constrained {
+    if !has_lists(kind) {
         return true;
     }
     if offsets.len() != bays + 1 {
@@ -23,6 +41,37 @@ pub fn offsets_shaped(bays: usize, constrained: bool, offsets: &[usize], tiles: 
         return false;
     }
     offsets[bays] == tiles.len()
+}
+
+// The offsets that the readers of lists go by: none where constraints are absent, so that they need not ask again.
+pub fn offsets_read<'a>(kind: ConstraintKind, offsets: &'a [usize]) -> &'a [usize]
+    ensures { λ r. ⌜ now r ≡ offsetsRead kind (now (offsets .entry)) ⌝ }
+{
+    if has_lists(kind) {
+        return offsets;
+    }
+    &offsets[0..0]
+}
+
+// Where the list of bay i begins and that of the bay before it ends: 0 past the last offset.
+fn offset_at(offsets: &[usize], i: usize) -> usize
+    ensures { λ r. ⌜ r ≡ getD (now (offsets .entry)) i 0 ⌝ }
+{
+    if offsets.len() <= i {
+        return 0;
+    }
+    offsets[i]
+}
+
+// The list of a bay, which is empty where there are no offsets.
+pub fn bay_list<'a>(bays: usize, offsets: &[usize], tiles: &'a [u32], bay: usize) -> &'a [u32]
+    requires { ⌜ offsetsShaped bays (byOffsets (now offsets) (now tiles)) ≡ true ⌝ }
+    requires { ⌜ bay < bays ⌝ }
+    ensures { λ r. ⌜ now r ≡ listOf (byOffsets (now (offsets .entry)) (now (tiles .entry))) bay ⌝ }
+{
+    let from = offset_at(offsets, bay);
+    let to = offset_at(offsets, bay + 1);
+    &tiles[from..to]
 }
 
 // The set of the strands below 64 that a list names.
@@ -38,26 +87,15 @@ fn list_set(tiles: &[u32]) -> u64
     set
 }
 
-// The strands of a set that a bay's list keeps: all where there is no list, or an empty one.
-pub fn restricted(
-    set: u64,
-    bays: usize,
-    constrained: bool,
-    offsets: &[usize],
-    tiles: &[u32],
-    bay: usize,
-) -> u64
-    requires { ⌜ offsetsShaped bays (constraints constrained (now offsets) (now tiles)) ≡ true ⌝ }
+// The strands of a set that a bay's list keeps: all where it is empty.
+pub fn restricted(set: u64, bays: usize, offsets: &[usize], tiles: &[u32], bay: usize) -> u64
+    requires { ⌜ offsetsShaped bays (byOffsets (now offsets) (now tiles)) ≡ true ⌝ }
     requires { ⌜ bay < bays ⌝ }
-    ensures { λ r. ⌜ r ≡ word (λ t. has set t && listAllows (listOf (constraints constrained (now (offsets .entry)) (now (tiles .entry))) bay) t) 64 ⌝ }
+    ensures { λ r. let list = listOf (byOffsets (now (offsets .entry)) (now (tiles .entry))) bay in ⌜ r ≡ word (λ t. has set t && listAllows list t) 64 ⌝ }
 {
-    if !constrained {
+    let list = bay_list(bays, offsets, tiles, bay);
+    if list.len() == 0 {
         return set;
     }
-    let from = offsets[bay];
-    let to = offsets[bay + 1];
-    if from == to {
-        return set;
-    }
-    sets::both(set, list_set(&tiles[from..to]))
+    sets::both(set, list_set(list))
 }

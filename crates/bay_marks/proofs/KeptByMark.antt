@@ -7,14 +7,13 @@ use native.Mathlib.Omega.{arith}
 use lib.Dec.{eqb}
 use lib.ListN.{getD}
 use borrow.Author.Tests.{eqb-true, eq-eqb}
-use Rattle.text_entries.proofs.Same.{both}
+use Rattle.units.proofs.Tests.{both}
 use Rattle.bay_lists.specs.Lists.{Constraints, listOf, names}
 use Rattle.bay_list_readers.specs.Reading.{onlyZeros}
-use Rattle.bay_system.specs.System.{System}
+use Rattle.bay_system.specs.System.{System, bays}
 use Rattle.bay_legal_at.specs.declared.seeds.Seed.{Seed}
 use Rattle.bay_legal_at.specs.declared.seeds.Seed.the-variants as seed
-use Rattle.bay_legal_at.specs.Legal.{seedAt}
-use Rattle.bay_legal.specs.Sets.{bays}
+use Rattle.bay_legal_at.specs.Legal.{seedOf}
 use Rattle.ledger_rows.proofs.Lists.{tab-at}
 use Rattle.bay_reasons.specs.declared.bays.BayReason.the-variants.{KeptEmpty, Restricted}
 use Rattle.bay_reasons.specs.Reasons.{listReason, reasonBy, reasonOf}
@@ -66,7 +65,7 @@ module _ (s : System) (c : Constraints) (bay : ℕ) (inside : bay < bays (s .siz
 
   pub kept-where-3 : mark ≡ 3 → KeptByList s c bay
   kept-where-3 e =
-      let three = marked-3 (seedAt (s .sizes .cols) (s .seeds) bay) (listOf c bay) (sym written ∙ e) in
+      let three = marked-3 (seedOf s bay) (listOf c bay) (sym written ∙ e) in
       record { unseeded = three .0; some = three .1 .0; zeros = names-0 (listOf c bay) (three .1 .1) }
 
   pub 3-where-kept : KeptByList s c bay → mark ≡ 3

@@ -12,7 +12,7 @@ use Rattle.bay_binding.specs.Binding.{mayLie}
 use Rattle.bay_system.specs.System.{System}
 use Rattle.bay_legal_at.specs.declared.seeds.Seed.{Seed}
 use Rattle.bay_legal_at.specs.declared.seeds.Seed.the-variants as seed
-use Rattle.bay_legal_at.specs.Legal.{seedAt, isLegal}
+use Rattle.bay_legal_at.specs.Legal.{seedOf, isLegal}
 use Rattle.ledger_rows.proofs.Lists.{tab-at}
 use Rattle.bay_reasons.specs.declared.rules.StrandRule.{StrandRule}
 use Rattle.bay_reasons.specs.declared.rules.StrandRule.the-variants.{Legal, OtherSeed, NoBond, NotNamed, Unknown}
@@ -40,7 +40,7 @@ unseeded-most false allowed = omega arith
 
 module _ (s : System) (c : Constraints) (bay strand : ℕ) (known : strand < s .sizes .strands) where
   abbrev lies : Seed
-  lies = seedAt (s .sizes .cols) (s .seeds) bay
+  lies = seedOf s bay
 
   abbrev onGlue : Bool
   onGlue = mayLie (s .strandGlues) (s .deltaG) (s .entropy) (s .sizes .glues) (scaffoldGlue (s .scaffold) bay) strand

@@ -1,4 +1,4 @@
-pub mod Answering
+pub mod Placed
 pub mod LegalByCode
 pub mod KeptByMark
 pub mod Examples

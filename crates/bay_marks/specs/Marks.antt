@@ -7,12 +7,12 @@ use lib.Dec.{eqb, ltb}
 use lib.ListN.{length}
 use Rattle.units.specs.Refusals.{Verdict, refuseIf, _▷_, ifPasses}
 use Rattle.bay_system.specs.declared.sizes.Sizes.{Sizes}
-use Rattle.bay_system.specs.System.{System, systemVerdict}
+use Rattle.bay_system.specs.System.{System, bays}
 use Rattle.bay_lists.specs.Lists.{Constraints, listOf, names}
 use Rattle.bay_legal_at.specs.declared.seeds.Seed.the-variants.{Unseeded}
-use Rattle.bay_legal_at.specs.Legal.{seedAt}
+use Rattle.bay_legal_at.specs.Legal.{seedOf}
 use Rattle.bay_legal_at.specs.OnGrid.{OnGrid}
-use Rattle.bay_legal.specs.Sets.{bays, shapeVerdict}
+use Rattle.bay_given.specs.Given.{givenVerdict}
 use Rattle.ledger_rows.specs.Blocks.{tab}
 use Rattle.bay_reasons.specs.declared.bays.BayReason.{BayReason}
 use Rattle.bay_reasons.specs.declared.bays.BayReason.the-variants.{Seeded, KeptEmpty, Restricted, Free}
@@ -33,17 +33,13 @@ markOf KeptEmpty = 3
 abbrev pub marksOf : System → Constraints → List ℕ
 marksOf s c = tab (λ bay. markOf (reasonOf s c bay)) (bays (s .sizes))
 
--- 1 to 4, then 5
-abbrev pub marksVerdict : System → (lent : ℕ) → Constraints → Verdict
-marksVerdict s lent c = systemVerdict s ▷ shapeVerdict (s .sizes) lent c
-
--- what the lent slice holds afterwards
+-- what the lent slice holds afterwards, where 1 to 5 are refused as of everything that is given
 abbrev pub marksAfter : System → Constraints → (lent : List ℕ) → List ℕ
-marksAfter s c lent = ifPasses (marksVerdict s (length lent) c) (marksOf s c) lent
+marksAfter s c lent = ifPasses (givenVerdict s (length lent) c) (marksOf s c) lent
 
 -- a bay that its list keeps empty: no strand is seeded there, and the list is not empty and names nothing but 0
 pub record KeptByList (s : System) (c : Constraints) (bay : ℕ) : Type 0 where
-  pub unseeded : seedAt (s .sizes .cols) (s .seeds) bay ≡ Unseeded
+  pub unseeded : seedOf s bay ≡ Unseeded
   pub some : listOf c bay ≡ [] → ⊥
   pub zeros : (strand : ℕ) → names (listOf c bay) strand ≡ true → strand ≡ 0
 
@@ -70,10 +66,10 @@ codesOf s c bay = tab (λ strand. codeOf (ruleOf s c bay strand)) (s .sizes .str
 abbrev pub placeVerdict : (strands bayCount lent bay : ℕ) → Verdict
 placeVerdict strands bayCount lent bay = refuseIf (not (eqb lent strands && ltb bay bayCount)) 5 []
 
--- 1 to 4, then 5 of the constraints, then 5 of the lent slice and of the bay
+-- 1 to 5 of what is given, then 5 of the lent slice and of the bay
 abbrev pub codesVerdict : System → (lent : ℕ) → Constraints → (bay : ℕ) → Verdict
 codesVerdict s lent c bay =
-    systemVerdict s ▷ shapeVerdict (s .sizes) (length (s .scaffold)) c ▷ placeVerdict (s .sizes .strands) (bays (s .sizes)) lent bay
+    givenVerdict s (length (s .scaffold)) c ▷ placeVerdict (s .sizes .strands) (bays (s .sizes)) lent bay
 
 -- what the lent slice holds afterwards
 abbrev pub codesAfter : System → Constraints → (bay : ℕ) → (lent : List ℕ) → List ℕ

@@ -1,22 +1,21 @@
 // The rule for every strand at one bay.
 ghost use mathlib.Core.Path.{_≡_};
-ghost use mathlib.Core.Bool.{true};
+ghost use mathlib.Core.List.{[]};
 ghost use Prim.Native.Nat.{_<_};
 ghost use lib.ListN.{length};
 ghost use Rattle.units.specs.Refusals.{check};
 ghost use Rattle.bay_system.specs.System.{system};
-ghost use Rattle.bay_lists.specs.Lists.{constraints, offsetsShaped};
-ghost use Rattle.bay_legal_at.specs.OnGrid.{Grid};
-ghost use Rattle.ledger_rows.specs.Blocks.{tab};
-ghost use Rattle.bay_reasons.specs.Reasons.{ruleAt};
-ghost use Rattle.bay_marks.specs.Marks.{codeOf, placeVerdict, codesVerdict, codesAfter};
-use bay_legal::check_shape;
+ghost use Rattle.bay_lists.specs.Lists.{constraints, byOffsets};
+ghost use Rattle.bay_given.specs.Given.{Given};
+ghost use Rattle.bay_marks.specs.Marks.{codeOf, codesOf, placeVerdict, codesVerdict, codesAfter};
+use bay_given::check_given;
+use bay_lists::ConstraintKind;
+use bay_lists::offsets_read;
 use bay_reasons::StrandRule;
 use bay_reasons::strand_rule;
 use bay_system::Sizes;
-use bay_system::check_system;
 use units::Check;
-use units::Refusal;
+use units::refused;
 
 // The code of a rule.
 fn code_of(rule: StrandRule) -> u8
@@ -31,40 +30,6 @@ fn code_of(rule: StrandRule) -> u8
     }
 }
 
-// The code of the rule for a strand at a bay.
-fn code_at(
-    z: Sizes,
-    strand_glues: &[u32],
-    scaffold: &[u32],
-    delta_g: &[f64],
-    entropy: &[f64],
-    seeds: &[u32],
-    constrained: bool,
-    offsets: &[usize],
-    tiles: &[u32],
-    bay: usize,
-    strand: u32,
-) -> u8
-    requires { ⌜ Grid z (now «strand_glues») (now scaffold) (now «delta_g») (now entropy) (now seeds) ⌝ }
-    requires { ⌜ bay < length (now scaffold) ⌝ }
-    requires { ⌜ offsetsShaped (length (now scaffold)) (constraints constrained (now offsets) (now tiles)) ≡ true ⌝ }
-    ensures { λ r. ⌜ r ≡ codeOf (ruleAt z (now («strand_glues» .entry)) (now (scaffold .entry)) (now («delta_g» .entry)) (now (entropy .entry)) (now (seeds .entry)) (constraints constrained (now (offsets .entry)) (now (tiles .entry))) bay strand) ⌝ }
-{
-    code_of(strand_rule(
-        z,
-        strand_glues,
-        scaffold,
-        delta_g,
-        entropy,
-        seeds,
-        constrained,
-        offsets,
-        tiles,
-        bay,
-        strand,
-    ))
-}
-
 // Writes the codes of all strands at a bay, for a system that passed its tests.
 fn fill_codes(
     z: Sizes,
@@ -73,33 +38,31 @@ fn fill_codes(
     delta_g: &[f64],
     entropy: &[f64],
     seeds: &[u32],
-    constrained: bool,
     offsets: &[usize],
     tiles: &[u32],
     bay: usize,
     rules: &mut [u8],
 )
-    requires { ⌜ Grid z (now «strand_glues») (now scaffold) (now «delta_g») (now entropy) (now seeds) ⌝ }
+    requires { ⌜ Given z (now «strand_glues») (now scaffold) (now «delta_g») (now entropy) (now seeds) (byOffsets (now offsets) (now tiles)) ⌝ }
     requires { ⌜ bay < length (now scaffold) ⌝ }
-    requires { ⌜ offsetsShaped (length (now scaffold)) (constraints constrained (now offsets) (now tiles)) ≡ true ⌝ }
     requires { ⌜ length (now rules) ≡ z .strands ⌝ }
-    ensures { λ _. ⌜ now (rules .exit) ≡ tab (λ strand. codeOf (ruleAt z (now («strand_glues» .entry)) (now (scaffold .entry)) (now («delta_g» .entry)) (now (entropy .entry)) (now (seeds .entry)) (constraints constrained (now (offsets .entry)) (now (tiles .entry))) bay strand)) (z .strands) ⌝ }
+    ensures { λ _. let s = system z (now («strand_glues» .entry)) (now (scaffold .entry)) (now («delta_g» .entry)) (now (entropy .entry)) [] (now (seeds .entry)) in
+        ⌜ now (rules .exit) ≡ codesOf s (byOffsets (now (offsets .entry)) (now (tiles .entry))) bay ⌝ }
 {
     let mut strand = 0;
     while strand < rules.len() {
-        rules[strand] = code_at(
+        rules[strand] = code_of(strand_rule(
             z,
             strand_glues,
             scaffold,
             delta_g,
             entropy,
             seeds,
-            constrained,
             offsets,
             tiles,
             bay,
             strand as u32,
-        );
+        ));
         strand += 1;
     }
 }
@@ -108,16 +71,13 @@ fn fill_codes(
 fn check_place(strands: usize, bays: usize, lent: usize, bay: usize) -> Check
     ensures { λ r. ⌜ r ≡ check (placeVerdict strands bays lent bay) ⌝ }
 {
-    if lent == strands {
-        if bay < bays {
-            return Check::Passed;
-        }
+    if lent != strands {
+        return refused(5);
     }
-    Check::Refused(Refusal {
-        number: 5,
-        first: 0,
-        second: 0,
-    })
+    if bays <= bay {
+        return refused(5);
+    }
+    Check::Passed
 }
 
 // The rule for each strand at one bay: 0 legal, 1 another strand is seeded there, 2 no bond with the bay's glue, 3 the bay's list leaves
@@ -130,20 +90,30 @@ pub fn rule_strands(
     entropy: &[f64],
     logs: &[f64],
     seeds: &[u32],
-    constrained: bool,
+    kind: ConstraintKind,
     offsets: &[usize],
     tiles: &[u32],
     bay: usize,
     rules: &mut [u8],
 ) -> Check
-    ensures answer { λ r. ⌜ r ≡ check (codesVerdict (system z (now («strand_glues» .entry)) (now (scaffold .entry)) (now («delta_g» .entry)) (now (entropy .entry)) (now (logs .entry)) (now (seeds .entry))) (length (now (rules .entry))) (constraints constrained (now (offsets .entry)) (now (tiles .entry))) bay) ⌝ }
-    ensures rules { λ _. ⌜ now (rules .exit) ≡ codesAfter (system z (now («strand_glues» .entry)) (now (scaffold .entry)) (now («delta_g» .entry)) (now (entropy .entry)) (now (logs .entry)) (now (seeds .entry))) (constraints constrained (now (offsets .entry)) (now (tiles .entry))) bay (now (rules .entry)) ⌝ }
+    ensures answer { λ r. let s = system z (now («strand_glues» .entry)) (now (scaffold .entry)) (now («delta_g» .entry)) (now (entropy .entry)) (now (logs .entry)) (now (seeds .entry)) in
+        ⌜ r ≡ check (codesVerdict s (length (now (rules .entry))) (constraints kind (now (offsets .entry)) (now (tiles .entry))) bay) ⌝ }
+    ensures rules { λ _. let s = system z (now («strand_glues» .entry)) (now (scaffold .entry)) (now («delta_g» .entry)) (now (entropy .entry)) (now (logs .entry)) (now (seeds .entry)) in
+        ⌜ now (rules .exit) ≡ codesAfter s (constraints kind (now (offsets .entry)) (now (tiles .entry))) bay (now (rules .entry)) ⌝ }
 {
-    match check_system(z, strand_glues, scaffold, delta_g, entropy, logs, seeds) {
-        Check::Refused(r) => return Check::Refused(r),
-        Check::Passed => (),
-    }
-    match check_shape(z, scaffold.len(), constrained, offsets, tiles) {
+    match check_given(
+        z,
+        strand_glues,
+        scaffold,
+        delta_g,
+        entropy,
+        logs,
+        seeds,
+        kind,
+        offsets,
+        tiles,
+        scaffold.len(),
+    ) {
         Check::Refused(r) => return Check::Refused(r),
         Check::Passed => (),
     }
@@ -158,8 +128,7 @@ pub fn rule_strands(
         delta_g,
         entropy,
         seeds,
-        constrained,
-        offsets,
+        offsets_read(kind, offsets),
         tiles,
         bay,
         rules,

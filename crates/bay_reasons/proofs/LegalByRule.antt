@@ -9,7 +9,7 @@ use Rattle.bay_binding.specs.Binding.{mayLie}
 use Rattle.bay_system.specs.System.{System}
 use Rattle.bay_legal_at.specs.declared.seeds.Seed.{Seed}
 use Rattle.bay_legal_at.specs.declared.seeds.Seed.the-variants as seed
-use Rattle.bay_legal_at.specs.Legal.{seedAt, permits, isLegal}
+use Rattle.bay_legal_at.specs.Legal.{seedOf, permits, isLegal}
 use Rattle.bay_reasons.specs.declared.rules.StrandRule.the-variants.{Legal, Unknown}
 use Rattle.bay_reasons.specs.Reasons.{ruleBy, ruleOf}
 use Rattle.bay_reasons.proofs.Chains.{chain}
@@ -32,7 +32,7 @@ module _ (s : System) (c : Constraints) (bay strand : ℕ) where
   onGlue = mayLie (s .strandGlues) (s .deltaG) (s .entropy) (s .sizes .glues) (scaffoldGlue (s .scaffold) bay) strand
 
   abbrev permitsIt : Seed → Bool
-  permitsIt x = permits (s .sizes) (s .strandGlues) (s .scaffold) (s .deltaG) (s .entropy) bay x strand
+  permitsIt x = permits s bay x strand
 
   abbrev known : Bool
   known = ltb strand (s .sizes .strands)
@@ -49,7 +49,7 @@ module _ (s : System) (c : Constraints) (bay strand : ℕ) where
   from-legal seed.Unseeded e = legal-chain false known onGlue allowed e
 
   pub legal-where-the-rule-says-so : ruleOf s c bay strand ≡ Legal → isLegal s c bay strand ≡ true
-  legal-where-the-rule-says-so e = to-legal (seedAt (s .sizes .cols) (s .seeds) bay) e
+  legal-where-the-rule-says-so e = to-legal (seedOf s bay) e
 
   pub the-rule-says-so-where-legal : isLegal s c bay strand ≡ true → ruleOf s c bay strand ≡ Legal
-  the-rule-says-so-where-legal e = from-legal (seedAt (s .sizes .cols) (s .seeds) bay) e
+  the-rule-says-so-where-legal e = from-legal (seedOf s bay) e

@@ -12,7 +12,7 @@ use Rattle.bay_binding.specs.Binding.{binds}
 use Rattle.bay_system.specs.System.{System}
 use Rattle.bay_legal_at.specs.declared.seeds.Seed.{Seed}
 use Rattle.bay_legal_at.specs.declared.seeds.Seed.the-variants.{Unseeded, Seeded}
-use Rattle.bay_legal_at.specs.Legal.{seedAt}
+use Rattle.bay_legal_at.specs.Legal.{seedOf}
 use Rattle.bay_reasons.specs.declared.rules.StrandRule.{StrandRule}
 use Rattle.bay_reasons.specs.declared.rules.StrandRule.the-variants.{OtherSeed, NoBond, NotNamed, Unknown}
 use Rattle.bay_reasons.specs.Reasons.{ruleBy, ruleOf}
@@ -72,7 +72,7 @@ not-named (x ∷ list) t n = n
 
 module _ (s : System) (c : Constraints) (bay strand : ℕ) where
   abbrev lies : Seed
-  lies = seedAt (s .sizes .cols) (s .seeds) bay
+  lies = seedOf s bay
 
   abbrev bond : Bool
   bond = binds (s .strandGlues) (s .deltaG) (s .entropy) (s .sizes .glues) (scaffoldGlue (s .scaffold) bay) strand

@@ -1,21 +1,24 @@
 -- What the reason of a bay says of its legal strands. Assumes nothing.
 use Prim.Native.Nat.{ℕ, _^_, _≤_, _<_}
 use mathlib.Core.Path.{_≡_, refl, sym, _∙_, ap, subst}
-use mathlib.Core.Bool.{Bool, true, false, cond, _&&_, _||_, true≢false}
+use mathlib.Core.Bool.{Bool, true, false, cond, _&&_, _||_}
 use mathlib.Core.List.{List, [], _∷_}
 use native.Mathlib.Omega.{arith}
 use lib.Dec.{eqb, ltb}
 use borrow.Author.Tests.{lt-ltb, eqb-true}
 use Rattle.units.specs.Refusals.{passes}
+use Rattle.units.proofs.Tests.{both, and-false}
 use Rattle.sets.proofs.Words.{word-same}
 use Rattle.sets.proofs.Operations.{word-only}
-use Rattle.bay_lists.specs.Lists.{Constraints, constraints, names, listAllows, listOf}
+use Rattle.bay_lists.specs.Lists.{Constraints, absent, names, listAllows, listOf}
+use Rattle.bay_lists.proofs.Naming.{or-false}
+use Rattle.bay_lists.proofs.Restricting.{and-true}
 use Rattle.bay_list_readers.specs.Reading.{onlyZeros}
 use Rattle.bay_system.specs.System.{System, systemVerdict}
 use Rattle.bay_system.proofs.Fine.{fine}
 use Rattle.bay_legal_at.specs.declared.seeds.Seed.{Seed}
 use Rattle.bay_legal_at.specs.declared.seeds.Seed.the-variants as seed
-use Rattle.bay_legal_at.specs.Legal.{seedAt, permits, isLegal, setAt}
+use Rattle.bay_legal_at.specs.Legal.{seedOf, permits, isLegal, setAt}
 use Rattle.bay_legal_at.specs.OnGrid.{Below}
 use Rattle.bay_legal_at.proofs.SeedBelow.{seed-below}
 use Rattle.bay_legal_at.proofs.ChemistsQuestion.{no-restriction, seed-alone, seed-left-out}
@@ -24,25 +27,9 @@ use Rattle.bay_reasons.specs.Reasons.{listReason, reasonBy, reasonOf}
 
 -- ---- from the reason back to the seed and the list
 
-or-false : (a : Bool) → (a || false) ≡ a
-or-false true = refl
-or-false false = refl
-
 or-same : (a : Bool) → (a || a) ≡ a
 or-same true = refl
 or-same false = refl
-
-and-true : (a : Bool) → (a && true) ≡ a
-and-true true = refl
-and-true false = refl
-
-both : (a b : Bool) → (a && b) ≡ true → (a ≡ true) × (b ≡ true)
-both true b e = (refl, e)
-both false b e = absurd (true≢false (sym e))
-
-and-false : (a : Bool) → (a && false) ≡ false
-and-false true = refl
-and-false false = refl
 
 -- a list of nothing but 0 names 0 alone, however often
 zeros-name : (x : ℕ) (list : List ℕ) → onlyZeros (x ∷ list) ≡ true → (t : ℕ) → names (x ∷ list) t ≡ eqb t 0
@@ -89,13 +76,13 @@ seeded-is seed.Unseeded list t e = absurd (not-seeded list t e)
 
 module _ (s : System) (c : Constraints) (bay : ℕ) where
   abbrev lies : Seed
-  lies = seedAt (s .sizes .cols) (s .seeds) bay
+  lies = seedOf s bay
 
   abbrev onSeed : Seed → ℕ → Bool
-  onSeed x t = ltb t (s .sizes .strands) && permits (s .sizes) (s .strandGlues) (s .scaffold) (s .deltaG) (s .entropy) bay x t
+  onSeed x t = ltb t (s .sizes .strands) && permits s bay x t
 
   -- a free bay has the set that it has without constraints
-  pub free-set : reasonOf s c bay ≡ Free → (offsets tiles : List ℕ) → setAt s c bay ≡ setAt s (constraints false offsets tiles) bay
+  pub free-set : reasonOf s c bay ≡ Free → setAt s c bay ≡ setAt s absent bay
   free-set e = no-restriction s c bay (at lies e)
     where
       at : (x : Seed) → reasonBy x (listOf c bay) ≡ Free → listOf c bay ≡ []
@@ -103,9 +90,8 @@ module _ (s : System) (c : Constraints) (bay : ℕ) where
       at seed.Unseeded f = free-is (listOf c bay) f
 
   -- at a restricted bay those strands are legal that the bay permits without constraints and that its list names
-  pub restricted-legal : reasonOf s c bay ≡ Restricted → (offsets tiles : List ℕ) (t : ℕ)
-      → isLegal s c bay t ≡ (isLegal s (constraints false offsets tiles) bay t && names (listOf c bay) t)
-  restricted-legal e offsets tiles t =
+  pub restricted-legal : reasonOf s c bay ≡ Restricted → (t : ℕ) → isLegal s c bay t ≡ (isLegal s absent bay t && names (listOf c bay) t)
+  restricted-legal e t =
       ap (λ (b : Bool). onSeed lies t && b) (at lies e)
       ∙ ap (λ (b : Bool). b && names (listOf c bay) t) (sym (and-true (onSeed lies t)))
     where

@@ -3,16 +3,14 @@ use Prim.Native.Nat.{ℕ}
 use mathlib.Core.Bool.{Bool, cond}
 use mathlib.Core.List.{List, [], _∷_}
 use lib.Dec.{eqb, ltb}
-use lib.Ieee.{Float}
 use Rattle.bay_glues.specs.Tables.{scaffoldGlue}
 use Rattle.bay_lists.specs.Lists.{Constraints, listOf, listAllows}
 use Rattle.bay_binding.specs.Binding.{mayLie}
 use Rattle.bay_list_readers.specs.Reading.{onlyZeros}
-use Rattle.bay_system.specs.declared.sizes.Sizes.{Sizes}
 use Rattle.bay_system.specs.System.{System}
 use Rattle.bay_legal_at.specs.declared.seeds.Seed.{Seed}
 use Rattle.bay_legal_at.specs.declared.seeds.Seed.the-variants as seed
-use Rattle.bay_legal_at.specs.Legal.{seedAt}
+use Rattle.bay_legal_at.specs.Legal.{seedOf}
 use Rattle.bay_reasons.specs.declared.bays.BayReason.{BayReason}
 use Rattle.bay_reasons.specs.declared.bays.BayReason.the-variants.{Seeded, KeptEmpty, Restricted, Free}
 use Rattle.bay_reasons.specs.declared.rules.StrandRule.{StrandRule}
@@ -30,11 +28,8 @@ abbrev pub reasonBy : Seed → (list : List ℕ) → BayReason
 reasonBy (seed.Seeded strand) list = Seeded strand
 reasonBy seed.Unseeded list = listReason list
 
-abbrev pub reasonAt : (cols : ℕ) → (seeds : List ℕ) → Constraints → (bay : ℕ) → BayReason
-reasonAt cols seeds c bay = reasonBy (seedAt cols seeds bay) (listOf c bay)
-
 abbrev pub reasonOf : System → Constraints → (bay : ℕ) → BayReason
-reasonOf s c bay = reasonAt (s .sizes .cols) (s .seeds) c bay
+reasonOf s c bay = reasonBy (seedOf s bay) (listOf c bay)
 
 -- ---- strands
 
@@ -55,11 +50,7 @@ ruleBy (seed.Seeded seed) strand mayLieThere allowed = seedRule seed strand allo
 ruleBy seed.Unseeded strand mayLieThere allowed = glueRule mayLieThere allowed
 
 -- first of all the number is a strand's
-abbrev pub ruleAt : Sizes → (strandGlues scaffold : List ℕ) → (deltaG entropy : List Float) → (seeds : List ℕ) → Constraints → (bay strand : ℕ) → StrandRule
-ruleAt z strandGlues scaffold deltaG entropy seeds c bay strand =
-    cond (ltb strand (z .strands))
-    (ruleBy (seedAt (z .cols) seeds bay) strand (mayLie strandGlues deltaG entropy (z .glues) (scaffoldGlue scaffold bay) strand) (listAllows (listOf c bay) strand))
-    Unknown
-
 abbrev pub ruleOf : System → Constraints → (bay strand : ℕ) → StrandRule
-ruleOf s c bay strand = ruleAt (s .sizes) (s .strandGlues) (s .scaffold) (s .deltaG) (s .entropy) (s .seeds) c bay strand
+ruleOf s c bay strand =
+    let mayLieThere = mayLie (s .strandGlues) (s .deltaG) (s .entropy) (s .sizes .glues) (scaffoldGlue (s .scaffold) bay) strand in
+    cond (ltb strand (s .sizes .strands)) (ruleBy (seedOf s bay) strand mayLieThere (listAllows (listOf c bay) strand)) Unknown

@@ -1,12 +1,15 @@
 // Why a bay holds what it holds.
 ghost use mathlib.Core.Path.{_≡_};
 ghost use mathlib.Core.Bool.{true};
+ghost use mathlib.Core.List.{[]};
 ghost use lib.ListN.{length};
+ghost use Rattle.bay_system.specs.System.{system};
 ghost use Rattle.bay_legal_at.specs.OnGrid.{OnGrid};
-ghost use Rattle.bay_lists.specs.Lists.{constraints, offsetsShaped};
-ghost use Rattle.bay_reasons.specs.Reasons.{listReason, reasonAt};
+ghost use Rattle.bay_lists.specs.Lists.{byOffsets, offsetsShaped};
+ghost use Rattle.bay_reasons.specs.Reasons.{listReason, reasonOf};
 use bay_legal_at::Seed;
 use bay_legal_at::seed_at;
+use bay_lists::bay_list;
 use bay_system::Sizes;
 
 // A seed lies there; the list names nothing but 0; the list names other strands; or nothing but the bay's glue restricts it.
@@ -35,25 +38,17 @@ pub fn bay_reason(
     z: Sizes,
     scaffold: &[u32],
     seeds: &[u32],
-    constrained: bool,
     offsets: &[usize],
     tiles: &[u32],
     bay: usize,
 ) -> BayReason
     requires { ⌜ OnGrid z (now scaffold) (now seeds) bay ⌝ }
-    requires { ⌜ offsetsShaped (length (now scaffold)) (constraints constrained (now offsets) (now tiles)) ≡ true ⌝ }
-    ensures { λ r. ⌜ r ≡ reasonAt (z .cols) (now (seeds .entry)) (constraints constrained (now (offsets .entry)) (now (tiles .entry))) bay ⌝ }
+    requires { ⌜ offsetsShaped (length (now scaffold)) (byOffsets (now offsets) (now tiles)) ≡ true ⌝ }
+    ensures { λ r. let s = system z [] (now (scaffold .entry)) [] [] [] (now (seeds .entry)) in
+        ⌜ r ≡ reasonOf s (byOffsets (now (offsets .entry)) (now (tiles .entry))) bay ⌝ }
 {
     match seed_at(z.cols, seeds, bay) {
         Seed::Seeded(strand) => BayReason::Seeded(strand),
-        Seed::Unseeded => {
-            list_reason(bay_list_readers::bay_list(
-                scaffold.len(),
-                constrained,
-                offsets,
-                tiles,
-                bay,
-            ))
-        }
+        Seed::Unseeded => { list_reason(bay_list(scaffold.len(), offsets, tiles, bay)) }
     }
 }

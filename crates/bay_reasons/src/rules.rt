@@ -2,15 +2,18 @@
 ghost use mathlib.Core.Path.{_≡_};
 ghost use mathlib.Core.Bool.{true};
 ghost use Prim.Native.Nat.{_<_};
+ghost use mathlib.Core.List.{[]};
 ghost use lib.ListN.{length};
+ghost use Rattle.bay_system.specs.System.{system};
 ghost use Rattle.energy_bonds.specs.Readable.{Readable};
 ghost use Rattle.bay_legal_at.specs.OnGrid.{OnGrid};
-ghost use Rattle.bay_lists.specs.Lists.{constraints, offsetsShaped};
+ghost use Rattle.bay_lists.specs.Lists.{byOffsets, offsetsShaped};
 ghost use Rattle.bay_binding.specs.Binding.{mayLie};
-ghost use Rattle.bay_reasons.specs.Reasons.{listRule, seedRule, glueRule, ruleAt};
+ghost use Rattle.bay_reasons.specs.Reasons.{listRule, seedRule, glueRule, ruleOf};
 use bay_binding::binds;
 use bay_legal_at::Seed;
 use bay_legal_at::seed_at;
+use bay_lists::bay_list;
 use bay_system::Sizes;
 
 // None; the bay's seed, which is another strand; no bond with the bay's glue; the bay's list, which leaves the strand out; no strand has
@@ -71,7 +74,6 @@ pub fn strand_rule(
     delta_g: &[f64],
     entropy: &[f64],
     seeds: &[u32],
-    constrained: bool,
     offsets: &[usize],
     tiles: &[u32],
     bay: usize,
@@ -79,13 +81,14 @@ pub fn strand_rule(
 ) -> StrandRule
     requires { ⌜ Readable (z .strands) (z .glues) (now «strand_glues») (now «delta_g») (now entropy) ⌝ }
     requires { ⌜ OnGrid z (now scaffold) (now seeds) bay ⌝ }
-    requires { ⌜ offsetsShaped (length (now scaffold)) (constraints constrained (now offsets) (now tiles)) ≡ true ⌝ }
-    ensures { λ r. ⌜ r ≡ ruleAt z (now («strand_glues» .entry)) (now (scaffold .entry)) (now («delta_g» .entry)) (now (entropy .entry)) (now (seeds .entry)) (constraints constrained (now (offsets .entry)) (now (tiles .entry))) bay strand ⌝ }
+    requires { ⌜ offsetsShaped (length (now scaffold)) (byOffsets (now offsets) (now tiles)) ≡ true ⌝ }
+    ensures { λ r. let s = system z (now («strand_glues» .entry)) (now (scaffold .entry)) (now («delta_g» .entry)) (now (entropy .entry)) [] (now (seeds .entry)) in
+        ⌜ r ≡ ruleOf s (byOffsets (now (offsets .entry)) (now (tiles .entry))) bay strand ⌝ }
 {
     if z.strands <= strand as usize {
         return StrandRule::Unknown;
     }
-    let list = bay_list_readers::bay_list(scaffold.len(), constrained, offsets, tiles, bay);
+    let list = bay_list(scaffold.len(), offsets, tiles, bay);
     let allowed = bay_list_readers::list_allows(list, strand);
     match seed_at(z.cols, seeds, bay) {
         Seed::Seeded(seed) => seed_rule(seed, strand, allowed),

@@ -1,7 +1,11 @@
 // The constraints of a system: where each bay's list ends, and the strands of all lists.
 ghost use Prim.Native.Nat.{_≤_};
+ghost use mathlib.Core.Path.{_≡_};
+ghost use mathlib.Core.Bool.{cond};
 ghost use lib.ListN.{length};
+ghost use Rattle.bay_lists.specs.declared.ConstraintKind.the-variants.{Absent, Lists};
 ghost use Rattle.case_constraints.specs.Within.{ConstraintsWithin};
+use bay_lists::ConstraintKind;
 use bay_system::Sizes;
 use case_field_reads::ListRead;
 use case_field_reads::at_most;
@@ -9,10 +13,10 @@ use case_field_reads::numbers_field;
 use case_field_reads::small_numbers_field;
 use case_text::has_field;
 
-// Whether the constraints could be read, whether there are any, and how many items each list has.
+// Whether the constraints could be read, of which kind they are, and how many items each list has.
 pub struct ConstraintsRead {
     pub readable: bool,
-    pub constrained: bool,
+    pub kind: ConstraintKind,
     pub offsets: usize,
     pub tiles: usize,
 }
@@ -52,6 +56,16 @@ fn both(offsets: bool, tiles: bool) -> bool {
     offsets && tiles
 }
 
+// Lists where there are constraints.
+fn kind_of(constrained: bool) -> ConstraintKind
+    ensures { λ r. ⌜ r ≡ cond constrained Lists Absent ⌝ }
+{
+    if constrained {
+        return ConstraintKind::Lists;
+    }
+    ConstraintKind::Absent
+}
+
 // Reads the constraints of a case; it has some exactly where it has the field `offsets`.
 pub fn read_constraints(line: &[u8], offsets: &mut [usize], tiles: &mut [u32]) -> ConstraintsRead
     ensures { λ r. ⌜ ConstraintsWithin r (now (line .entry)) (length (now (offsets .entry))) (length (now (tiles .entry))) ⌝ }
@@ -61,7 +75,7 @@ pub fn read_constraints(line: &[u8], offsets: &mut [usize], tiles: &mut [u32]) -
     let listed = tiles_field(line, constrained, tiles);
     ConstraintsRead {
         readable: both(ends.readable, listed.readable),
-        constrained,
+        kind: kind_of(constrained),
         offsets: ends.count,
         tiles: listed.count,
     }

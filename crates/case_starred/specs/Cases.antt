@@ -11,10 +11,10 @@ use Rattle.units.specs.Decimals.{plus, minus}
 use Rattle.units.specs.Refusals.{refusal}
 use Rattle.dna_calls.specs.Starred.{Outcome as Sequences·Outcome, Case as Sequences·Case, starred as Sequences·starred}
 use Rattle.bay_system.specs.System.{System, system}
-use Rattle.bay_lists.specs.Lists.{Constraints, constraints}
+use Rattle.bay_lists.specs.Lists.{Constraints, lists, absent}
 use Rattle.bay_legal_at.specs.Legal.{isLegal}
 use Rattle.run_least_layout.specs.Run.{runNeed}
-use Rattle.sdc2d_thermo.specs.Run.{mfeAnswer, layoutAfter, energiesAfter}
+use Rattle.run_mfe.specs.Run.{mfeAnswer, layoutAfter, energiesAfter}
 
 -- what a case is about
 pub data Outcome : Type 0 where
@@ -47,11 +47,11 @@ two rows cols =
     (plus 0 1 ∷ plus 0 1 ∷ plus 0 1 ∷ minus 1 1 ∷ []) (plus 0 1 ∷ plus 0 1 ∷ plus 0 1 ∷ plus 0 1 ∷ []) (plus 0 1 ∷ plus 0 1 ∷ []) []
 
 abbrev free : Constraints
-free = constraints false [] []
+free = absent
 
 -- the list of the one bay
 abbrev listed : List ℕ → Constraints
-listed tiles = constraints true (0 ∷ length tiles ∷ []) tiles
+listed tiles = lists (0 ∷ length tiles ∷ []) tiles
 
 -- the answer where the lent slices fit one bay with two rows, and what the call leaves in the lent layout, which held 7
 abbrev least : System → Constraints → Outcome

@@ -1,4 +1,5 @@
 // Runs on a grid of 3 by 3 bays where every strand is legal on every bay, over an empty ledger: the refusal tells the need.
+use bay_lists::ConstraintKind;
 use bay_system::Sizes;
 use case_text::first_floats;
 use case_text::first_small_numbers;
@@ -33,7 +34,7 @@ fn nine_bays(strands: usize, strand_glues: usize) -> EnergyAnswer {
         &entropy,
         first_floats(&logs, strands),
         &seeds,
-        false,
+        ConstraintKind::Absent,
         &offsets,
         &tiles,
         &mut layout,

@@ -9,8 +9,8 @@ use borrow.Author.Tests.{eqb-true}
 use Rattle.text_entries.proofs.Same.{both}
 use Rattle.units.specs.Refusals.{passes}
 use Rattle.bay_system.specs.System.{System}
-use Rattle.bay_lists.specs.Lists.{Constraints, names, listAllows, listOf}
-use Rattle.bay_legal_at.specs.Legal.{permitted, isLegal}
+use Rattle.bay_lists.specs.Lists.{Constraints, absent, names, listAllows, listOf}
+use Rattle.bay_legal_at.specs.Legal.{isPermitted, isLegal}
 use Rattle.bay_legal_at.specs.Layouts.{LegalLayout}
 use Rattle.sheet_number_lists.specs.NumberLists.{listIn}
 use Rattle.sheet_fields.specs.Runs.{contents}
@@ -19,7 +19,7 @@ use Rattle.sheet_grammar.specs.Contents.{sheetConstraints, bayContent}
 use Rattle.sheet_grammar.proofs.Calls.{read-is-sheet}
 use Rattle.sheet_grammar.proofs.Contents.{0-reads-as-0, nothing-reads-as-empty}
 use Rattle.sheet_grammar.proofs.FromSheetToSet.{list-of-field}
-use Rattle.plan_chemists_answer.specs.ChemistsAnswer.{unconstrained, ChemistsAnswer}
+use Rattle.plan_chemists_answer.specs.ChemistsAnswer.{ChemistsAnswer}
 
 -- the list 0 names 0 alone
 only-0 : (strand : ℕ) → listAllows (0 ∷ []) strand ≡ true → strand ≡ 0
@@ -42,7 +42,7 @@ module _ (s : System) (sheet o t : List ℕ) (read : readVerdict (s .sizes .rows
 
   -- of a bay by its own strands and its list
   abbrev own : (bay strand : ℕ) → Bool
-  own bay strand = permitted (s .sizes) (s .strandGlues) (s .scaffold) (s .deltaG) (s .entropy) (s .seeds) bay strand
+  own bay strand = isPermitted s bay strand
 
   -- the list of a bay with the field `0`, and of one without content
   zero-list : (bay : ℕ) → bay < rows * columns → bayContent rows columns sheet bay ≡ 48 ∷ [] → listOf given bay ≡ 0 ∷ []
@@ -51,7 +51,7 @@ module _ (s : System) (sheet o t : List ℕ) (read : readVerdict (s .sizes .rows
   no-list : (bay : ℕ) → bay < rows * columns → bayContent rows columns sheet bay ≡ [] → listOf given bay ≡ []
   no-list bay inside e = list-of-field rows columns sheet bay inside ∙ ap listIn e ∙ nothing-reads-as-empty .1
 
-  as-without : (bay : ℕ) → bay < rows * columns → bayContent rows columns sheet bay ≡ [] → (strand : ℕ) → isLegal s given bay strand ≡ isLegal s unconstrained bay strand
+  as-without : (bay : ℕ) → bay < rows * columns → bayContent rows columns sheet bay ≡ [] → (strand : ℕ) → isLegal s given bay strand ≡ isLegal s absent bay strand
   as-without bay inside e strand = ap (λ (l : List ℕ). own bay strand && listAllows l strand) (no-list bay inside e)
 
   module _ (layout : List ℕ) (legal : LegalLayout s given layout) where

@@ -1,7 +1,6 @@
 -- The chemist's answer, from the bytes of the sheet to the strand in the layout, of the two calls themselves. Assumes nothing.
 use Prim.Native.Nat.{ℕ, _*_}
 use mathlib.Core.Path.{_≡_, refl, sym, _∙_, ap, ap₂, subst, subst₂}
-use mathlib.Core.Bool.{true}
 use mathlib.Core.List.{List}
 use lib.Ieee.{Float}
 use lib.ListN.{length, getD, take}
@@ -12,16 +11,16 @@ use Rattle.units.specs.Refusals.{Verdict, passes, refuses, _▷_, ifPasses}
 use Rattle.units.specs.Answers.{energyAnswer}
 use Rattle.units.specs.declared.EnergyAnswer.the-variants.{Energy}
 use Rattle.units.proofs.Verdicts.{first-passes, rest-passes}
-use Rattle.bay_system.specs.System.{systemVerdict}
-use Rattle.bay_system.proofs.Fine.{fine}
-use Rattle.bay_lists.specs.Lists.{Constraints, constraints}
-use Rattle.bay_legal.specs.Sets.{setsOf, shapeVerdict, emptyVerdict}
+use Rattle.bay_lists.specs.Lists.{Constraints, lists}
+use Rattle.bay_given.specs.Given.{givenVerdict}
+use Rattle.bay_given.proofs.Passed.{is-fine}
+use Rattle.bay_legal.specs.Sets.{setsOf, emptyVerdict}
 use Rattle.energy_state.specs.StateG.{inKcal}
 use Rattle.run_room.specs.Room.{roomVerdict}
 use Rattle.run_least_layout.specs.Run.{runNeed, leastSum, leastLayout}
 use Rattle.bay_legal_at.specs.Layouts.{LegalLayout}
 use Rattle.run_least_layout.proofs.Passed.{run-is-right}
-use Rattle.sdc2d_thermo.specs.Run.{earlyVerdict, sumVerdict, runVerdict}
+use Rattle.run_mfe.specs.Run.{earlyVerdict, sumVerdict, runVerdict}
 use Rattle.sheet_cells.specs.Cells.{allTiles, starts}
 use Rattle.sheet.specs.Read.{sheetLists, tileCount, readVerdict, tilesAfter}
 use Rattle.sheet_grammar.specs.Contents.{sheetConstraints}
@@ -51,9 +50,9 @@ module _ (r : SheetRead) where
   offsets-are-starts = r .contract .1 .1 .0 ∙ read-offsets (rowsOf r) (columnsOf r) (textOf r) offsetsLent tilesLent (read-passes .0)
 
   -- what it left are the constraints that the sheet's lists are
-  lists-of-sheet : constraints true (offsetsRead r) (tilesRead r) ≡ sheetConstraints (rowsOf r) (columnsOf r) (textOf r)
+  lists-of-sheet : lists (offsetsRead r) (tilesRead r) ≡ sheetConstraints (rowsOf r) (columnsOf r) (textOf r)
   lists-of-sheet =
-      ap₂ (λ (offsets tiles : List ℕ). constraints true offsets tiles) offsets-are-starts
+      ap₂ (λ (offsets tiles : List ℕ). lists offsets tiles) offsets-are-starts
       (ap (take (r .count)) (r .contract .1 .1 .1)
       ∙ ap (λ (n : ℕ). take n (tilesAfter (rowsOf r) (columnsOf r) (textOf r) offsetsLent tilesLent)) (sym (read-passes .1))
       ∙ read-tiles (rowsOf r) (columnsOf r) (textOf r) offsetsLent tilesLent (read-passes .0))
@@ -84,12 +83,12 @@ module _ (m : RunAnswered) where
       let early = first-passes (earlyVerdict s c (lent .0) (lent .1 .0) (lent .1 .1)) (sumVerdict s c) run-passes in
       let empty = emptyVerdict (s .sizes .rows) (s .sizes .cols) (setsOf s c) in
       let room = roomVerdict (runNeed s c) (lent .1 .0) (lent .1 .1) in
-      let shape = shapeVerdict (s .sizes) (lent .0) c in
-      let sound = first-passes (systemVerdict s) (shape ▷ empty ▷ room) early in
-      let some = first-passes empty room (rest-passes shape (empty ▷ room) (rest-passes (systemVerdict s) (shape ▷ empty ▷ room) early)) in
+      let given = givenVerdict s (lent .0) c in
+      let sound = is-fine s (lent .0) c (first-passes given (empty ▷ room) early) in
+      let some = first-passes empty room (rest-passes given (empty ▷ room) early) in
       let old = now (m .input .1 .1 .1 .1 .1 .1 .1 .1 .1 .1 .0) in
       let left : layoutOf m ≡ leastLayout s c = m .contract .1 .1 .0 ∙ ap (λ (v : Verdict). ifPasses v (leastLayout s c) old) run-passes in
-      subst (LegalLayout s c) (sym left) (run-is-right s c (fine s sound) some .legal)
+      subst (LegalLayout s c) (sym left) (run-is-right s c sound some .legal)
 
 -- Where `read_sheet` read the sheet and the run on the lists so read ended in a layout, that layout is what the chemist's fields say.
 pub chemists-answer : (r : SheetRead) (m : RunAnswered) → HandedOn r m → ChemistsAnswer (systemOf m) (textOf r) (givenLists m) (layoutOf m)

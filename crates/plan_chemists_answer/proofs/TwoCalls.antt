@@ -2,7 +2,6 @@
 -- and answered an energy. Assumes nothing.
 use Prim.Native.Nat.{ℕ}
 use mathlib.Core.Path.{_≡_}
-use mathlib.Core.Bool.{true}
 use mathlib.Core.List.{List}
 use lib.Ieee.{Float}
 use lib.ListN.{take}
@@ -13,11 +12,11 @@ use borrow.Fn.Kinds.{Dens, endedOf}
 use Rattle.units.specs.declared.CountAnswer.the-variants.{Count}
 use Rattle.units.specs.declared.EnergyAnswer.the-variants.{Energy}
 use Rattle.bay_system.specs.System.{System, system}
-use Rattle.bay_lists.specs.Lists.{Constraints, constraints}
+use Rattle.bay_lists.specs.Lists.{Constraints, constraints, lists}
 use Rattle.sheet.proofs.read_sheet.Kinds as read-kinds
 use Rattle.sheet.proofs.read_sheet.Reads as read-sheet
-use Rattle.sdc2d_thermo.proofs.mfe_configuration.Kinds as run-kinds
-use Rattle.sdc2d_thermo.proofs.mfe_configuration.Reads as run
+use Rattle.run_mfe.proofs.mfe_configuration.Kinds as run-kinds
+use Rattle.run_mfe.proofs.mfe_configuration.Reads as run
 
 -- a call of `read_sheet` that answered a count: what it was lent, and what it left by its contract
 pub record SheetRead : Type 0 where
@@ -73,4 +72,4 @@ module _ (m : RunAnswered) where
 pub record HandedOn (r : SheetRead) (m : RunAnswered) : Type 0 where
   pub same-rows : systemOf m .sizes .rows ≡ rowsOf r
   pub same-columns : systemOf m .sizes .cols ≡ columnsOf r
-  pub lists-read : givenLists m ≡ constraints true (offsetsRead r) (tilesRead r)
+  pub lists-read : givenLists m ≡ lists (offsetsRead r) (tilesRead r)

@@ -1,6 +1,7 @@
 // Calls over a system, each with as much of a longer table lent as the grid or the strands ask for. Where a table is shorter than that, which no
 // tested system has, the call is refused with 1.
 use bay_legal::allowed_tiles;
+use bay_lists::ConstraintKind;
 use bay_marks::mark_bays;
 use bay_marks::rule_strands;
 use bay_system::Sizes;
@@ -46,7 +47,7 @@ pub(crate) fn run_lent(
         entropy,
         logs,
         seeds,
-        true,
+        ConstraintKind::Lists,
         offsets,
         tiles,
         &mut layout[0..bays],
@@ -84,7 +85,7 @@ pub(crate) fn choice_lent(
         entropy,
         logs,
         seeds,
-        true,
+        ConstraintKind::Lists,
         offsets,
         tiles,
         bay,
@@ -120,7 +121,7 @@ pub(crate) fn marks_lent(
         entropy,
         logs,
         seeds,
-        true,
+        ConstraintKind::Lists,
         offsets,
         tiles,
         &mut marks[0..bays],
@@ -152,7 +153,7 @@ pub(crate) fn sets_lent(
         entropy,
         logs,
         seeds,
-        true,
+        ConstraintKind::Lists,
         offsets,
         tiles,
         &mut sets[0..bays],
@@ -185,7 +186,7 @@ pub(crate) fn rules_lent(
         entropy,
         logs,
         seeds,
-        true,
+        ConstraintKind::Lists,
         offsets,
         tiles,
         bay,

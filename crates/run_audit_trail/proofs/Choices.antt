@@ -19,7 +19,7 @@ use Rattle.ledger_rows.specs.Blocks.{need}
 use Rattle.ledger_rows.specs.LeastEnergyTheorem.{eachWith, choices as scanChoices, windows, EndsIn as ScanEndsIn}
 use Rattle.ledger_rows.proofs.Windows.{length-choices}
 use Rattle.run_least_layout.specs.Run.{systemScan}
-use Rattle.bay_legal_at.proofs.StrandBelow.{strand-below as legal-below}
+use Rattle.bay_legal_at.proofs.StrandBelow.{strand-below}
 use Rattle.run_least_layout.proofs.Meaning.{strands-are}
 use Rattle.run_least_layout.proofs.Fillings.{Fit, newestFirst}
 use Rattle.run_audit_trail.specs.Rows.{shorterSide, windowAfter, oldest, eachThen, choices, rowsAfter, begins, EndsIn}
@@ -78,7 +78,7 @@ module _ (s : System) (c : Constraints) (fit : Fit s) where
       let most : 64 ≡ s .sizes .strands + (64 - s .sizes .strands) = omega (arith, fit .strands) in
       strands-are s c k h
       ∙ ap (members (isLegal s c bay)) most
-      ∙ members-all (isLegal s c bay) (s .sizes .strands) (64 - s .sizes .strands) (λ t e. legal-below s c bay t e)
+      ∙ members-all (isLegal s c bay) (s .sizes .strands) (64 - s .sizes .strands) (λ t e. strand-below s c bay t e)
 
   -- the window of the scan is the shorter side
   pub kept-is : suc (z .kept) ≡ shorterSide s

@@ -19,12 +19,13 @@ use Rattle.units.specs.declared.EnergyAnswer.the-variants.{Energy}
 use Rattle.units.specs.Answers.{energyAnswer, energyRefusal}
 use Rattle.units.specs.Refusals.{Verdict, passes, refuses, refuseIf, _▷_, ifPasses, numberIn, numberOf}
 use Rattle.units.proofs.Verdicts.{no-fault, first-passes, rest-passes}
-use Rattle.bay_system.specs.System.{System, system, bays, systemVerdict}
+use Rattle.bay_system.specs.System.{System, system, bays}
 use Rattle.bay_system.proofs.Fine.{Fine, fine}
 use Rattle.energy_state.specs.StateG.{inKcal}
 use Rattle.bay_lists.specs.Lists.{Constraints, constraints}
 use Rattle.bay_legal_at.specs.Layouts.{LegalLayout}
-use Rattle.bay_legal.specs.Sets.{setsOf, emptyVerdict, shapeVerdict}
+use Rattle.bay_given.specs.Given.{givenVerdict}
+use Rattle.bay_legal.specs.Sets.{setsOf, emptyVerdict}
 use Rattle.energy_bays.specs.Energies.{isBad}
 use Rattle.energy_bays.specs.ScanSum.{scanSumOf}
 use Rattle.energy_bays.proofs.Laws.{bad-is}
@@ -38,9 +39,9 @@ use Rattle.run_least_layout.specs.Layouts.{LeastLayoutTheorem}
 use Rattle.run_least_layout.proofs.Passed.{fit, run-is-right}
 use Rattle.text_fronts.specs.Front.{front}
 use Rattle.run_sets.specs.Finished.{tableAfter}
-use Rattle.sdc2d_thermo.specs.Run.{earlyVerdict, sumVerdict, runVerdict, mfeAnswer, layoutAfter, energiesAfter, notesAfter}
-use Rattle.sdc2d_thermo.proofs.mfe_configuration.Kinds as kinds
-use Rattle.sdc2d_thermo.proofs.mfe_configuration.Reads as reads
+use Rattle.run_mfe.specs.Run.{earlyVerdict, sumVerdict, runVerdict, mfeAnswer, layoutAfter, energiesAfter, notesAfter}
+use Rattle.run_mfe.proofs.mfe_configuration.Kinds as kinds
+use Rattle.run_mfe.proofs.mfe_configuration.Reads as reads
 use Rattle.run_audit_trail.specs.Rows.{rowsAfter, begins, needed}
 use Rattle.run_audit_trail.specs.AuditTrail.{energyIn, notedIn, FirstLeast, AnsweredRun, EarlierTestsPass, Demand3}
 use Rattle.run_audit_trail.proofs.Turned.{turned}
@@ -115,9 +116,8 @@ module _ (s : System) (c : Constraints) (r : EnergyAnswer) (l₀ l₁ : List ℕ
 
       right : LeastLayoutTheorem s c
       right =
-          let shape = shapeVerdict (s .sizes) (length l₀) c in
           let empty = emptyVerdict (s .sizes .rows) (s .sizes .cols) (setsOf s c) in
-          run-is-right s c is-fine (first-passes empty _ (rest-passes shape _ (rest-passes (systemVerdict s) _ passed)))
+          run-is-right s c is-fine (first-passes empty _ (rest-passes (givenVerdict s (length l₀) c) _ passed))
 
       need-is : need z n ≡ needed s c
       need-is = begins-at s c (fit s is-fine) n (omega arith)

@@ -8,6 +8,7 @@ use mathlib.Core.List.{List, []}
 use mathlib.Core.Logic.{_↔_}
 use lib.Ieee.{Float, nan, binary64, ofBits, mul, lt, le}
 use lib.ListN.{length, getD, take, drop, replicate}
+use Rattle.units.specs.Limits.{mostRows}
 use Rattle.units.specs.declared.EnergyAnswer.{EnergyAnswer}
 use Rattle.units.specs.declared.EnergyAnswer.the-variants.{Energy}
 use Rattle.units.specs.Answers.{energyRefusal}
@@ -90,7 +91,7 @@ pub record EarlierTestsPass (s : System) (c : Constraints) (layoutLength energie
   -- 7, where bays count row by row
   pub some-strand : (bay : ℕ) → bay < bays (s .sizes) → (strand : ℕ) × (isLegal s c bay strand ≡ true)
   -- 8
-  pub few-rows : needed s c ≤ 1048576
+  pub few-rows : needed s c ≤ mostRows
   -- 9
   pub energies-fit : needed s c ≤ energiesLength
   pub leaving-fits : needed s c ≤ leavingLength

@@ -11,22 +11,23 @@ use lib.Dec.{eqb}
 use lib.ListN.{length, getD, set, take, length-set}
 use lib.Seq.{ext-getD, take-set-lt, getD-set-same, getD-set-other}
 use borrow.Author.Tests.{eqb-true, eq-eqb, ne-eqb}
+use Rattle.units.specs.Limits.{mostStrands}
 use Rattle.units.specs.Refusals.{passes, refuses}
-use Rattle.text_entries.proofs.Same.{both}
+use Rattle.units.proofs.Tests.{both, and-false}
 use Rattle.sets.specs.Set.{has, word}
 use Rattle.sets.proofs.Words.{word-same, has-word}
 use Rattle.sets.proofs.Operations.{word-none, word-only}
-use Rattle.bay_system.specs.System.{System, systemVerdict}
+use Rattle.bay_system.specs.System.{System, bays, systemVerdict}
 use Rattle.bay_system.proofs.Fine.{fine}
-use Rattle.bay_lists.specs.Lists.{Constraints, constraints}
-use Rattle.bay_lists.proofs.Restricting.{kept-of}
-use Rattle.bay_legal_at.specs.Legal.{isLegal, setAt}
+use Rattle.bay_lists.specs.Lists.{Constraints, absent}
+use Rattle.bay_lists.proofs.Restricting.{and-true, kept-of}
+use Rattle.bay_legal_at.specs.Legal.{isPermitted, isLegal, setAt}
+use Rattle.bay_legal_at.proofs.StrandBelow.{strand-below}
 use Rattle.bay_scan_order.specs.Scan.{bayAt}
-use Rattle.bay_legal.specs.Sets.{bays, setsTo, firstEmpty, emptyVerdict}
+use Rattle.bay_legal.specs.Sets.{setsTo, firstEmpty, emptyVerdict}
 use Rattle.bay_legal.proofs.Fronts.{length-sets}
 use Rattle.bay_legal.specs.Seven.{SevenTheorem}
 use Rattle.bay_legal.proofs.Seven.{FirstWithout, seven, set-of-bay, seven-exactly}
-use Rattle.bay_legal_at.proofs.StrandBelow.{strand-below as legal-below}
 use Rattle.run_choice_price.specs.Choice.{chosenLegal, chosenSets}
 
 -- ---- one set of a table changed
@@ -52,19 +53,19 @@ module _ (legal other : ℕ → ℕ → Bool) (n bay w : ℕ) (h : bay < n) (own
 -- ---- what may lie on the bays
 module _ (s : System) (c : Constraints) (chosen strand : ℕ) where
   abbrev may : ℕ → Bool
-  may t = isLegal s (constraints false [] []) chosen t
+  may t = isLegal s absent chosen t
 
   pub there : (t : ℕ) → chosenLegal s c chosen strand chosen t ≡ (may t && eqb t strand)
   there t = ap (λ (b : Bool). cond b (may t && eqb t strand) (isLegal s c chosen t)) (eq-eqb chosen chosen refl)
 
   pub elsewhere : (bay : ℕ) → (bay ≡ chosen → ⊥) → (t : ℕ) → chosenLegal s c chosen strand bay t ≡ isLegal s c bay t
-  elsewhere bay n t = ap (λ (b : Bool). cond b (isLegal s (constraints false [] []) bay t && eqb t strand) (isLegal s c bay t)) (ne-eqb bay chosen n)
+  elsewhere bay n t = ap (λ (b : Bool). cond b (isLegal s absent bay t && eqb t strand) (isLegal s c bay t)) (ne-eqb bay chosen n)
 
-  -- the set of the chosen bay as the code makes it: what is legal without constraints, and the strand alone, cut
-  pub there-word : {a b w : ℕ} → a ≡ word may 64 → b ≡ word (λ t. eqb t strand) 64 → w ≡ word (λ t. has a t && has b t) 64
+  -- the set of the chosen bay as the code makes it: what the bay permits, and the strand alone, cut
+  pub there-word : {a b w : ℕ} → a ≡ word (isPermitted s chosen) 64 → b ≡ word (λ t. eqb t strand) 64 → w ≡ word (λ t. has a t && has b t) 64
       → w ≡ word (chosenLegal s c chosen strand chosen) 64
   there-word {a} {b} e f made =
-      kept-of may (has b) e made
+      kept-of may (has b) (e ∙ word-same (isPermitted s chosen) may 64 (λ t h. sym (and-true (isPermitted s chosen t)))) made
       ∙ word-same (λ t. may t && has b t) (chosenLegal s c chosen strand chosen) 64
       (λ t h. ap (λ (x : Bool). may t && x) (ap (λ (x : ℕ). has x t) f ∙ has-word (λ u. eqb u strand) 64 t h) ∙ sym (there t))
 
@@ -72,9 +73,9 @@ module _ (s : System) (c : Constraints) (chosen strand : ℕ) where
   pub chosen-below : (bay t : ℕ) → chosenLegal s c chosen strand bay t ≡ true → t < s .sizes .strands
   chosen-below bay t e = by (eqb bay chosen) e
     where
-      by : (b : Bool) → cond b (isLegal s (constraints false [] []) bay t && eqb t strand) (isLegal s c bay t) ≡ true → t < s .sizes .strands
-      by true q = legal-below s (constraints false [] []) bay t (both (isLegal s (constraints false [] []) bay t) (eqb t strand) q .0)
-      by false q = legal-below s c bay t q
+      by : (b : Bool) → cond b (isLegal s absent bay t && eqb t strand) (isLegal s c bay t) ≡ true → t < s .sizes .strands
+      by true q = strand-below s absent bay t (both (isLegal s absent bay t) (eqb t strand) q .0)
+      by false q = strand-below s c bay t q
 
   -- ---- the sets
   pub other-sets : (bay : ℕ) → bay < bays (s .sizes) → (bay ≡ chosen → ⊥) → getD (chosenSets s c chosen strand) bay 0 ≡ setAt s c bay
@@ -87,13 +88,9 @@ module _ (s : System) (c : Constraints) (chosen strand : ℕ) where
     alone : (b : Bool) → may strand ≡ b → (t : ℕ) → chosenLegal s c chosen strand chosen t ≡ (b && eqb t strand)
     alone b e t = there t ∙ by (eqb t strand) refl
       where
-        none : (a : Bool) → (a && false) ≡ false
-        none true = refl
-        none false = refl
-
         by : (same : Bool) → eqb t strand ≡ same → (may t && same) ≡ (b && same)
         by true q = ap (λ (x : Bool). x && true) (ap may (eqb-true t strand q) ∙ e)
-        by false q = none (may t) ∙ sym (none b)
+        by false q = and-false (may t) ∙ sym (and-false b)
 
     set-is : (b : Bool) → may strand ≡ b → getD (chosenSets s c chosen strand) chosen 0 ≡ word (λ t. b && eqb t strand) 64
     set-is b e =
@@ -101,8 +98,8 @@ module _ (s : System) (c : Constraints) (chosen strand : ℕ) where
         ∙ word-same (chosenLegal s c chosen strand chosen) (λ t. b && eqb t strand) 64 (λ t k. alone b e t)
 
     -- a strand that is legal there without constraints
-    pub chosen-set : s .sizes .strands ≤ 64 → may strand ≡ true → getD (chosenSets s c chosen strand) chosen 0 ≡ 2 ^ strand
-    chosen-set few e = set-is true e ∙ word-only 64 strand (lt-of-lt-of-le (legal-below s (constraints false [] []) chosen strand e) few)
+    pub chosen-set : s .sizes .strands ≤ mostStrands → may strand ≡ true → getD (chosenSets s c chosen strand) chosen 0 ≡ 2 ^ strand
+    chosen-set few e = set-is true e ∙ word-only 64 strand (lt-of-lt-of-le (strand-below s absent chosen strand e) few)
 
     -- and one that is not
     pub nothing-left : may strand ≡ false → getD (chosenSets s c chosen strand) chosen 0 ≡ 0

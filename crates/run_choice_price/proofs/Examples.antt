@@ -1,7 +1,6 @@
 -- The call on one bay, computed: the order of its refusals, and what counts on the chosen bay. Assumes nothing.
 use Prim.Native.Nat.{ℕ}
 use mathlib.Core.Path.{_≡_, refl}
-use mathlib.Core.Bool.{true, false}
 use mathlib.Core.List.{List, [], _∷_}
 use lib.Ieee.{round, ofBits, add, sub, mul, div, lt, le, ne}
 use Rattle.units.specs.declared.EnergyAnswer.the-variants.{Refused}
@@ -14,7 +13,7 @@ use Rattle.sets.specs.Set.{has, word, members}
 use Rattle.text_entries.specs.Entries.{offsetsFrom}
 use Rattle.bay_system.specs.System.{System, system, isLog, firstBadSeed}
 use Rattle.energy_bays.specs.Energies.{bayEnergy, edgeEnergy, isBad}
-use Rattle.bay_lists.specs.Lists.{Constraints, constraints, names}
+use Rattle.bay_lists.specs.Lists.{Constraints, absent, lists, names}
 use Rattle.bay_legal_at.specs.Legal.{seedAt}
 use Rattle.bay_legal.specs.Sets.{setsTo, firstEmpty}
 use Rattle.ledger_rows.specs.Blocks.{tab, flat, size, leavers, newest, lower, lowest, energies, notes, need}
@@ -28,37 +27,34 @@ one glue seeds =
     (0 ∷ 0 ∷ 0 ∷ 0 ∷ 0 ∷ 0 ∷ 0 ∷ 0 ∷ 0 ∷ glue ∷ []) (1 ∷ [])
     (plus 0 1 ∷ plus 0 1 ∷ plus 0 1 ∷ minus 1 1 ∷ []) (plus 0 1 ∷ plus 0 1 ∷ plus 0 1 ∷ plus 0 1 ∷ []) (plus 0 1 ∷ plus 0 1 ∷ []) seeds
 
-abbrev free : Constraints
-free = constraints false [] []
-
 -- the bay's list is `0`
 abbrev kept-empty : Constraints
-kept-empty = constraints true (0 ∷ 1 ∷ []) (0 ∷ [])
+kept-empty = lists (0 ∷ 1 ∷ []) (0 ∷ [])
 
 -- a glue 9 of two, and a bay off the grid: 2, with the glue's place; 5 once the glue is right
-two-before-five : priceAnswer (one 9 []) free 5 0 1 2 2 ≡ Refused (refusal 2 (9 ∷ []))
+two-before-five : priceAnswer (one 9 []) absent 5 0 1 2 2 ≡ Refused (refusal 2 (9 ∷ []))
 unfolding decimal round finite firstFailing le
 two-before-five = refl
 
-five : priceVerdict (one 1 []) free 5 0 1 2 2 ≡ refuses 5 []
+five : priceVerdict (one 1 []) absent 5 0 1 2 2 ≡ refuses 5 []
 unfolding decimal round finite firstFailing isLog firstBadSeed lt le
 five = refl
 
 -- short tables, and a strand that there is none of: 7, with the bay; 9 with the need for one that there is
-seven-before-nine : priceVerdict (one 1 []) free 0 2 1 0 0 ≡ refuses 7 (0 ∷ [])
+seven-before-nine : priceVerdict (one 1 []) absent 0 2 1 0 0 ≡ refuses 7 (0 ∷ [])
 unfolding decimal round ofBits finite firstFailing isLog firstBadSeed lt le ne has word members seedAt setsTo firstEmpty
 seven-before-nine = refl
 
-nine : priceVerdict (one 1 []) free 0 1 1 0 0 ≡ refuses 9 (1 ∷ [])
+nine : priceVerdict (one 1 []) absent 0 1 1 0 0 ≡ refuses 9 (1 ∷ [])
 unfolding decimal round ofBits finite firstFailing isLog firstBadSeed lt le ne has word members seedAt setsTo firstEmpty need size tab flat
 nine = refl
 
 -- the strand does not bind the bay's glue, or another strand is seeded there: 7
-not-bound : priceVerdict (one 0 []) free 0 1 1 2 2 ≡ refuses 7 (0 ∷ [])
+not-bound : priceVerdict (one 0 []) absent 0 1 1 2 2 ≡ refuses 7 (0 ∷ [])
 unfolding decimal round ofBits finite firstFailing isLog firstBadSeed lt le ne has word members seedAt setsTo firstEmpty
 not-bound = refl
 
-seeded : priceVerdict (one 1 (0 ∷ 0 ∷ 0 ∷ [])) free 0 1 1 2 2 ≡ refuses 7 (0 ∷ [])
+seeded : priceVerdict (one 1 (0 ∷ 0 ∷ 0 ∷ [])) absent 0 1 1 2 2 ≡ refuses 7 (0 ∷ [])
 unfolding decimal round ofBits finite firstFailing isLog firstBadSeed lt le ne has word members seedAt setsTo firstEmpty
 seeded = refl
 

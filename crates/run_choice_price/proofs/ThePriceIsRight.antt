@@ -1,7 +1,7 @@
 -- THE THEOREM of the price: where the call answers an energy, its layout has the strand on the bay, and no such layout has a smaller scan sum. Assumes nothing.
 use Prim.Native.Nat.{ℕ, _<_}
 use mathlib.Core.Path.{_≡_, refl, sym, _∙_, ap, subst}
-use mathlib.Core.Bool.{Bool, true, false, _&&_}
+use mathlib.Core.Bool.{Bool, true, _&&_}
 use mathlib.Core.List.{List, []}
 use native.Mathlib.Decide.{ℕ-discrete}
 use native.Mathlib.Omega.{arith}
@@ -13,12 +13,12 @@ use Rattle.units.specs.declared.EnergyAnswer.the-variants.{Energy}
 use Rattle.units.specs.Answers.{energyAnswer}
 use Rattle.units.specs.Refusals.{Verdict, passes, refuses, _▷_, ifPasses}
 use Rattle.units.proofs.Verdicts.{no-fault, first-passes, rest-passes}
-use Rattle.text_entries.proofs.Same.{both}
-use Rattle.bay_system.specs.System.{System, systemVerdict}
-use Rattle.bay_system.proofs.Fine.{fine}
-use Rattle.bay_lists.specs.Lists.{Constraints, constraints}
+use Rattle.units.proofs.Tests.{both}
+use Rattle.bay_system.specs.System.{System, bays}
+use Rattle.bay_lists.specs.Lists.{Constraints, absent}
 use Rattle.bay_legal_at.specs.Legal.{isLegal}
-use Rattle.bay_legal.specs.Sets.{bays, emptyVerdict}
+use Rattle.bay_legal.specs.Sets.{emptyVerdict}
+use Rattle.bay_given.proofs.Passed.{is-fine}
 use Rattle.energy_bays.specs.Energies.{isBad}
 use Rattle.energy_state.specs.StateG.{inKcal}
 use Rattle.run_room.specs.Room.{roomVerdict}
@@ -26,16 +26,17 @@ use Rattle.run_least_layout.specs.Run.{needBy, leastSumBy, leastLayoutBy}
 use Rattle.bay_legal_at.specs.Layouts.{LayoutBy}
 use Rattle.energy_bays.specs.ScanSum.{scanSumOf}
 use Rattle.run_least_layout.proofs.Passed.{least-by}
+use Rattle.run_mfe.specs.RunBy.{earlyBy, sumBy}
 use Rattle.run_choice_price.specs.Choice.{chosenLegal, chosenSets}
-use Rattle.run_choice_price.specs.Price.{choiceVerdict, earlyVerdict, sumVerdict, priceVerdict, priceAnswer, priceLayout}
+use Rattle.run_choice_price.specs.Price.{choiceVerdict, priceVerdict, priceAnswer, priceLayout}
 use Rattle.run_choice_price.specs.Chosen.{ChosenLayout, PriceTheorem}
-use Rattle.run_choice_price.proofs.Choices.{inside}
+use Rattle.run_choice_price.proofs.Choices.{given-passes, inside}
 use Rattle.run_choice_price.proofs.ChosenSets.{there, elsewhere, chosen-below}
 
 -- a layout may lie there under the choice exactly where it is one of the choice's
 module _ (s : System) (c : Constraints) (bay strand : ℕ) (on : bay < bays (s .sizes)) where
   abbrev free : ℕ → Bool
-  free t = isLegal s (constraints false [] []) bay t
+  free t = isLegal s absent bay t
 
   chosen-of-legal : (l : List ℕ) → LayoutBy s (chosenLegal s c bay strand) l → ChosenLayout s c bay strand l
   chosen-of-legal l legal =
@@ -75,7 +76,7 @@ module _ (s : System) (c : Constraints) (bay strand energies notes : ℕ) (old :
   may = chosenLegal s c bay strand
 
   abbrev choice : Verdict
-  choice = choiceVerdict (s .sizes) (length old) c bay
+  choice = choiceVerdict s (length old) c bay
 
   abbrev empty : Verdict
   empty = emptyVerdict (s .sizes .rows) (s .sizes .cols) (chosenSets s c bay strand)
@@ -84,19 +85,18 @@ module _ (s : System) (c : Constraints) (bay strand energies notes : ℕ) (old :
   room = roomVerdict (needBy s may) energies notes
 
   abbrev first : Verdict
-  first = earlyVerdict s c bay strand (length old) energies notes
+  first = earlyBy choice s may energies notes
 
   pub the-price-is-right : priceAnswer s c bay strand (length old) energies notes ≡ Energy energy
       → PriceTheorem s c bay strand energy (priceLayout s c bay strand energies notes old)
   the-price-is-right e =
       let a = answered (priceVerdict s c bay strand (length old) energies notes) (inKcal (leastSumBy s may) (s .sizes .kelvin)) energy e in
-      let early = first-passes first (sumVerdict s c bay strand) (a .0) in
-      let good = no-fault (isBad (leastSumBy s may)) 10 [] (rest-passes first (sumVerdict s c bay strand) (a .0)) in
-      let system-passes = first-passes (systemVerdict s) (choice ▷ empty ▷ room) early in
-      let behind = rest-passes (systemVerdict s) (choice ▷ empty ▷ room) early in
-      let on = inside (s .sizes) (length old) c bay (first-passes choice (empty ▷ room) behind) in
-      let none-empty = first-passes empty room (rest-passes choice (empty ▷ room) behind) in
-      let least = least-by s may (chosen-below s c bay strand) (fine s system-passes) none-empty in
+      let early = first-passes first (sumBy s may) (a .0) in
+      let good = no-fault (isBad (leastSumBy s may)) 10 [] (rest-passes first (sumBy s may) (a .0)) in
+      let chosen = first-passes choice (empty ▷ room) early in
+      let on = inside s (length old) c bay chosen in
+      let none-empty = first-passes empty room (rest-passes choice (empty ▷ room) early) in
+      let least = least-by s may (chosen-below s c bay strand) (is-fine s (length old) c (given-passes s (length old) c bay chosen)) none-empty in
       let laid : priceLayout s c bay strand energies notes old ≡ leastLayoutBy s may = ap (λ (v : Verdict). ifPasses v (leastLayoutBy s may) old) (a .0) in
       subst (λ (l : List ℕ). PriceTheorem s c bay strand energy l) (sym laid)
       (record {

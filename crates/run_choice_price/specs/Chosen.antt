@@ -1,14 +1,13 @@
 -- What the price of a choice is, in the system's own words. Assumes nothing.
 use Prim.Native.Nat.{ℕ, _<_}
 use mathlib.Core.Path.{_≡_}
-use mathlib.Core.Bool.{true, false}
-use mathlib.Core.List.{List, []}
+use mathlib.Core.Bool.{true}
+use mathlib.Core.List.{List}
 use lib.Ieee.{Float, le}
 use lib.ListN.{length, getD}
-use Rattle.bay_system.specs.System.{System}
-use Rattle.bay_lists.specs.Lists.{Constraints, constraints}
+use Rattle.bay_system.specs.System.{System, bays}
+use Rattle.bay_lists.specs.Lists.{Constraints, absent}
 use Rattle.bay_legal_at.specs.Legal.{isLegal}
-use Rattle.bay_legal.specs.Sets.{bays}
 use Rattle.energy_state.specs.StateG.{inKcal}
 use Rattle.energy_bays.specs.ScanSum.{scanSumOf}
 
@@ -16,7 +15,7 @@ use Rattle.energy_bays.specs.ScanSum.{scanSumOf}
 pub record ChosenLayout (s : System) (c : Constraints) (bay strand : ℕ) (layout : List ℕ) : Type 0 where
   pub long : length layout ≡ bays (s .sizes)
   pub has : getD layout bay 0 ≡ strand
-  pub there : isLegal s (constraints false [] []) bay strand ≡ true
+  pub there : isLegal s absent bay strand ≡ true
   pub elsewhere : (other : ℕ) → other < bays (s .sizes) → (other ≡ bay → ⊥) → isLegal s c other (getD layout other 0) ≡ true
 
 -- the energy is that of such a layout, and no such layout has a smaller scan sum

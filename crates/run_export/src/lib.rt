@@ -4,8 +4,9 @@ ghost use lib.ListN.{length};
 ghost use Rattle.units.specs.Refusals.{numberIn};
 ghost use Rattle.bay_system.specs.System.{system};
 ghost use Rattle.bay_lists.specs.Lists.{constraints};
-ghost use Rattle.sdc2d_thermo.specs.Run.{runVerdict, mfeAnswer, layoutAfter, energiesAfter, notesAfter};
-ghost use Rattle.run_export.specs.Numbers.{numbers, sizes};
+ghost use Rattle.run_mfe.specs.Run.{runVerdict, mfeAnswer, layoutAfter, energiesAfter, notesAfter};
+ghost use Rattle.run_export.specs.Numbers.{numbers, sizes, kindOf};
+use bay_lists::ConstraintKind;
 use bay_system::Sizes;
 use units::EnergyAnswer;
 
@@ -35,6 +36,16 @@ fn numbers(answer: EnergyAnswer) -> RunNumbers
     }
 }
 
+// The kind of constraints by a caller's number, one byte as C's bool is: 0 for absent ones, 1 for lists. Any other number is read as 1, as C reads a bool.
+fn kind_of(constrained: u8) -> ConstraintKind
+    ensures { λ r. ⌜ r ≡ kindOf constrained ⌝ }
+{
+    if constrained == 0 {
+        return ConstraintKind::Absent;
+    }
+    ConstraintKind::Lists
+}
+
 // The layout of least energy, its energy and its ledger, as `sdc2d_thermo::mfe_configuration` gives them.
 #[no_mangle]
 pub extern "C" fn run_export_mfe_configuration(
@@ -49,18 +60,33 @@ pub extern "C" fn run_export_mfe_configuration(
     entropy: &[f64],
     logs: &[f64],
     seeds: &[u32],
-    constrained: bool,
+    constrained: u8,
     offsets: &[usize],
     tiles: &[u32],
     layout: &mut [u32],
     energies: &mut [f64],
     leaving: &mut [u8],
 ) -> RunNumbers
-    ensures number { λ r. ⌜ r .number ≡ numberIn (runVerdict (system (sizes rows cols strands glues kelvin) (now («strand_glues» .entry)) (now (scaffold .entry)) (now («delta_g» .entry)) (now (entropy .entry)) (now (logs .entry)) (now (seeds .entry))) (constraints constrained (now (offsets .entry)) (now (tiles .entry))) (length (now (layout .entry))) (length (now (energies .entry))) (length (now (leaving .entry)))) ⌝ }
-    ensures answer { λ r. ⌜ r ≡ numbers (mfeAnswer (system (sizes rows cols strands glues kelvin) (now («strand_glues» .entry)) (now (scaffold .entry)) (now («delta_g» .entry)) (now (entropy .entry)) (now (logs .entry)) (now (seeds .entry))) (constraints constrained (now (offsets .entry)) (now (tiles .entry))) (length (now (layout .entry))) (length (now (energies .entry))) (length (now (leaving .entry)))) ⌝ }
-    ensures layout { λ _. ⌜ now (layout .exit) ≡ layoutAfter (system (sizes rows cols strands glues kelvin) (now («strand_glues» .entry)) (now (scaffold .entry)) (now («delta_g» .entry)) (now (entropy .entry)) (now (logs .entry)) (now (seeds .entry))) (constraints constrained (now (offsets .entry)) (now (tiles .entry))) (length (now (energies .entry))) (length (now (leaving .entry))) (now (layout .entry)) ⌝ }
-    ensures energies { λ _. ⌜ now (energies .exit) ≡ energiesAfter (system (sizes rows cols strands glues kelvin) (now («strand_glues» .entry)) (now (scaffold .entry)) (now («delta_g» .entry)) (now (entropy .entry)) (now (logs .entry)) (now (seeds .entry))) (constraints constrained (now (offsets .entry)) (now (tiles .entry))) (length (now (layout .entry))) (length (now (leaving .entry))) (now (energies .entry)) ⌝ }
-    ensures leaving { λ _. ⌜ now (leaving .exit) ≡ notesAfter (system (sizes rows cols strands glues kelvin) (now («strand_glues» .entry)) (now (scaffold .entry)) (now («delta_g» .entry)) (now (entropy .entry)) (now (logs .entry)) (now (seeds .entry))) (constraints constrained (now (offsets .entry)) (now (tiles .entry))) (length (now (layout .entry))) (length (now (energies .entry))) (now (leaving .entry)) ⌝ }
+    ensures number { λ r. let s = system (sizes rows cols strands glues kelvin) (now («strand_glues» .entry)) (now (scaffold .entry)) (now («delta_g» .entry))
+        (now (entropy .entry)) (now (logs .entry)) (now (seeds .entry)) in
+        let c = constraints (kindOf constrained) (now (offsets .entry)) (now (tiles .entry)) in
+        ⌜ r .number ≡ numberIn (runVerdict s c (length (now (layout .entry))) (length (now (energies .entry))) (length (now (leaving .entry)))) ⌝ }
+    ensures answer { λ r. let s = system (sizes rows cols strands glues kelvin) (now («strand_glues» .entry)) (now (scaffold .entry)) (now («delta_g» .entry))
+        (now (entropy .entry)) (now (logs .entry)) (now (seeds .entry)) in
+        let c = constraints (kindOf constrained) (now (offsets .entry)) (now (tiles .entry)) in
+        ⌜ r ≡ numbers (mfeAnswer s c (length (now (layout .entry))) (length (now (energies .entry))) (length (now (leaving .entry)))) ⌝ }
+    ensures layout { λ _. let s = system (sizes rows cols strands glues kelvin) (now («strand_glues» .entry)) (now (scaffold .entry)) (now («delta_g» .entry))
+        (now (entropy .entry)) (now (logs .entry)) (now (seeds .entry)) in
+        let c = constraints (kindOf constrained) (now (offsets .entry)) (now (tiles .entry)) in
+        ⌜ now (layout .exit) ≡ layoutAfter s c (length (now (energies .entry))) (length (now (leaving .entry))) (now (layout .entry)) ⌝ }
+    ensures energies { λ _. let s = system (sizes rows cols strands glues kelvin) (now («strand_glues» .entry)) (now (scaffold .entry)) (now («delta_g» .entry))
+        (now (entropy .entry)) (now (logs .entry)) (now (seeds .entry)) in
+        let c = constraints (kindOf constrained) (now (offsets .entry)) (now (tiles .entry)) in
+        ⌜ now (energies .exit) ≡ energiesAfter s c (length (now (layout .entry))) (length (now (leaving .entry))) (now (energies .entry)) ⌝ }
+    ensures leaving { λ _. let s = system (sizes rows cols strands glues kelvin) (now («strand_glues» .entry)) (now (scaffold .entry)) (now («delta_g» .entry))
+        (now (entropy .entry)) (now (logs .entry)) (now (seeds .entry)) in
+        let c = constraints (kindOf constrained) (now (offsets .entry)) (now (tiles .entry)) in
+        ⌜ now (leaving .exit) ≡ notesAfter s c (length (now (layout .entry))) (length (now (energies .entry))) (now (leaving .entry)) ⌝ }
 {
     let z = Sizes {
         rows,
@@ -77,7 +103,7 @@ pub extern "C" fn run_export_mfe_configuration(
         entropy,
         logs,
         seeds,
-        constrained,
+        kind_of(constrained),
         offsets,
         tiles,
         layout,

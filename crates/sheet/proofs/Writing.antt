@@ -18,7 +18,7 @@ use Rattle.units.specs.Refusals.{Verdict, passes, refuses, _▷_, refusal, chec
 use Rattle.units.specs.Answers.{countAnswer, countRefusal}
 use Rattle.units.proofs.Verdicts.{refused-first, passed, refused-keeps, no-fault, rest-passes, Tabled, tabled-if, tabled-then}
 use Rattle.units.proofs.Answers.{a-count, refused, given}
-use Rattle.bay_lists.specs.Lists.{constraints, offsetsShaped}
+use Rattle.bay_lists.specs.Lists.{offsetsShaped, lists}
 use Rattle.text_put.specs.Puts.{written, Put}
 use Rattle.sheet_cells.specs.Cells.{front}
 use Rattle.sheet_text.specs.Lengths.{capped}
@@ -29,9 +29,9 @@ use Rattle.sheet.specs.Room.{offsetsVerdict, listsVerdict, bytesVerdict,
 -- ---- lists that passed
 
 pub shape-passed : (rows columns : ℕ) (offsets tiles : List ℕ) → listsVerdict rows columns offsets tiles ≡ passes
-    → offsetsShaped (rows * columns) (constraints true offsets tiles) ≡ true
+    → offsetsShaped (rows * columns) (lists offsets tiles) ≡ true
 shape-passed rows columns offsets tiles e =
-    let shaped = offsetsShaped (rows * columns) (constraints true offsets tiles) in
+    let shaped = offsetsShaped (rows * columns) (lists offsets tiles) in
     not-false shaped (no-fault (not shaped) 5 [] (rest-passes (gridVerdict rows columns) (offsetsVerdict rows columns offsets tiles) e))
 
 -- ---- the text
@@ -63,7 +63,7 @@ write-tabled rows columns offsets tiles text =
     let room = bytesVerdict (length text) need in
     let shape = offsetsVerdict rows columns offsets tiles in
     tabled-then (gridVerdict rows columns) (shape ▷ room) (tabled-if (not (fromOneTo mostSide rows && fromOneTo mostSide columns)) 1 [] refl)
-    (tabled-then shape room (tabled-if (not (offsetsShaped (rows * columns) (constraints true offsets tiles))) 5 [] refl)
+    (tabled-then shape room (tabled-if (not (offsetsShaped (rows * columns) (lists offsets tiles))) 5 [] refl)
     (tabled-if (ltb (length text) need) 9 (need ∷ []) refl))
 
 -- what the contract asks

@@ -8,13 +8,13 @@ use lib.ListN.{length}
 use Rattle.units.specs.Refusals.{Verdict, refuseIf, ifPasses, _▷_}
 use Rattle.units.specs.Answers.{countAnswer}
 use Rattle.units.specs.declared.CountAnswer.{CountAnswer}
-use Rattle.bay_lists.specs.Lists.{constraints, offsetsShaped}
+use Rattle.bay_lists.specs.Lists.{offsetsShaped, lists}
 use Rattle.sheet_cells.specs.Cells.{front}
 use Rattle.sheet.specs.Read.{gridVerdict}
 
 -- 5, for offsets of the wrong shape, and 1 before it
 abbrev pub offsetsVerdict : (rows columns : ℕ) → (offsets tiles : List ℕ) → Verdict
-offsetsVerdict rows columns offsets tiles = refuseIf (not (offsetsShaped (rows * columns) (constraints true offsets tiles))) 5 []
+offsetsVerdict rows columns offsets tiles = refuseIf (not (offsetsShaped (rows * columns) (lists offsets tiles))) 5 []
 
 abbrev pub listsVerdict : (rows columns : ℕ) → (offsets tiles : List ℕ) → Verdict
 listsVerdict rows columns offsets tiles = gridVerdict rows columns ▷ offsetsVerdict rows columns offsets tiles

@@ -6,7 +6,7 @@ use lib.ListN.{length}
 use Rattle.units.specs.Refusals.{Verdict, ifPasses, _▷_}
 use Rattle.units.specs.Answers.{countAnswer}
 use Rattle.units.specs.declared.CountAnswer.{CountAnswer}
-use Rattle.bay_lists.specs.Lists.{constraints}
+use Rattle.bay_lists.specs.Lists.{lists}
 use Rattle.sheet_cells.specs.Cells.{front}
 use Rattle.sheet_text.specs.Written.{sheetText}
 use Rattle.sheet_text.specs.Lengths.{capped}
@@ -15,7 +15,7 @@ use Rattle.sheet.specs.Room.{offsetsVerdict, bytesVerdict}
 
 -- the bytes of the sheet
 abbrev pub sheetBytes : (rows columns : ℕ) → (offsets tiles : List ℕ) → List ℕ
-sheetBytes rows columns offsets tiles = sheetText (constraints true offsets tiles) columns 0 rows
+sheetBytes rows columns offsets tiles = sheetText (lists offsets tiles) columns 0 rows
 
 -- how many they are, or the largest usize where they are more
 abbrev pub bytesNeeded : (rows columns : ℕ) → (offsets tiles : List ℕ) → ℕ

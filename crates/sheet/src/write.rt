@@ -4,7 +4,7 @@ ghost use mathlib.Core.Bool.{true};
 ghost use Prim.Native.Nat.{_*_};
 ghost use Rattle.units.specs.Refusals.{check, Prints};
 ghost use Rattle.units.specs.Answers.{countRefusal};
-ghost use Rattle.bay_lists.specs.Lists.{constraints, offsetsShaped};
+ghost use Rattle.bay_lists.specs.Lists.{offsetsShaped, lists};
 ghost use Rattle.sheet.specs.Write.{sheetBytes, bytesNeeded, writeVerdict, writeAnswer, textAfter};
 ghost use Rattle.sheet.specs.Room.{listsVerdict, TextFilled};
 use crate::grid::check_grid;
@@ -55,7 +55,7 @@ fn fill_text(
     tiles: &[u32],
     text: &mut [u8],
 ) -> CountAnswer
-    requires { ⌜ offsetsShaped (rows * columns) (constraints true (now offsets) (now tiles)) ≡ true ⌝ }
+    requires { ⌜ offsetsShaped (rows * columns) (lists (now offsets) (now tiles)) ≡ true ⌝ }
     ensures { λ r.
         let offsets' = now (offsets .entry) in
         let tiles' = now (tiles .entry) in

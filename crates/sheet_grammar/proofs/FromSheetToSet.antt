@@ -1,19 +1,20 @@
 -- From the bytes of a sheet to the sets of its bays: a field `0` keeps its bay empty, a field without content restricts nothing. Assumes nothing.
 use Prim.Native.Nat.{ℕ, zero, suc, _*_, _≤_, _<_}
 use mathlib.Core.Path.{_≡_, refl, sym, _∙_, ap, ap₂}
-use mathlib.Core.Bool.{true, false}
+use mathlib.Core.Bool.{true}
 use mathlib.Core.List.{List, [], _∷_, _++_}
 use native.Mathlib.Omega.{arith}
 use lib.ListN.{length, getD, take}
-use Rattle.units.specs.Refusals.{Verdict, passes, _▷_, ifPasses}
+use Rattle.units.specs.Refusals.{Verdict, passes, ifPasses}
 use Rattle.units.proofs.Verdicts.{first-passes}
-use Rattle.bay_system.proofs.Ranges.{shaped}
-use Rattle.bay_system.specs.System.{System, sizesVerdict, gluesVerdict, energiesVerdict, seedsVerdict, systemVerdict}
-use Rattle.bay_lists.specs.Lists.{Constraints, constraints, listOf, offsetsShaped}
+use Rattle.bay_system.specs.System.{System, bays}
+use Rattle.bay_lists.specs.Lists.{Constraints, absent, lists, listOf, offsetsShaped}
 use Rattle.bay_legal_at.specs.declared.seeds.Seed.the-variants.{Unseeded}
-use Rattle.bay_legal_at.specs.Legal.{seedAt, isLegal, setAt}
+use Rattle.bay_legal_at.specs.Legal.{seedOf, isLegal, setAt}
 use Rattle.bay_legal_at.proofs.ChemistsQuestion.{keep-it-empty, no-restriction}
-use Rattle.bay_legal.specs.Sets.{bays, setsOf, shapeVerdict, emptyVerdict, allowedVerdict, setsAfter}
+use Rattle.bay_given.specs.Given.{givenVerdict}
+use Rattle.bay_given.proofs.Passed.{is-fine}
+use Rattle.bay_legal.specs.Sets.{setsOf, emptyVerdict, allowedVerdict, setsAfter}
 use Rattle.bay_legal.proofs.Seven.{set-of-bay}
 use Rattle.sheet_fields.specs.Fields.{after}
 use Rattle.sheet_number_lists.specs.NumberLists.{isList, listIn}
@@ -104,29 +105,28 @@ module _ (s : System) (text : List ℕ) (bay : ℕ) (inside : bay < bays (s .siz
   columns = s .sizes .cols
 
   -- an unseeded bay whose field is `0` has the set {0}, the number 1: it stays empty
-  pub field-0-keeps-empty : 1 ≤ s .sizes .strands → seedAt columns (s .seeds) bay ≡ Unseeded → bayContent rows columns text bay ≡ 48 ∷ []
+  pub field-0-keeps-empty : 1 ≤ s .sizes .strands → seedOf s bay ≡ Unseeded → bayContent rows columns text bay ≡ 48 ∷ []
       → setAt s (sheetConstraints rows columns text) bay ≡ 1
   field-0-keeps-empty some unseeded e =
       keep-it-empty s (sheetConstraints rows columns text) bay unseeded some
       (list-of-field rows columns text bay inside ∙ ap listIn e ∙ 0-reads-as-0 .1)
 
   -- a bay whose field has no content has the set that it has without constraints
-  pub no-content-restricts-nothing : bayContent rows columns text bay ≡ [] → (offsets tiles : List ℕ)
-      → setAt s (sheetConstraints rows columns text) bay ≡ setAt s (constraints false offsets tiles) bay
-  no-content-restricts-nothing e offsets tiles =
-      no-restriction s (sheetConstraints rows columns text) bay (list-of-field rows columns text bay inside ∙ ap listIn e ∙ nothing-reads-as-empty .1) offsets tiles
+  pub no-content-restricts-nothing : bayContent rows columns text bay ≡ [] → setAt s (sheetConstraints rows columns text) bay ≡ setAt s absent bay
+  no-content-restricts-nothing e =
+      no-restriction s (sheetConstraints rows columns text) bay (list-of-field rows columns text bay inside ∙ ap listIn e ∙ nothing-reads-as-empty .1)
 
   -- ---- from call to call: what the reading call leaves, handed to the call that finds the sets
 
   module _ (o t : List ℕ) (read : readVerdict rows columns text o t ≡ passes) where
     -- the offsets that it leaves, and as many numbers as it counts
     abbrev left : Constraints
-    left = constraints true (offsetsAfter rows columns text o t) (take (tileCount rows columns text) (tilesAfter rows columns text o t))
+    left = lists (offsetsAfter rows columns text o t) (take (tileCount rows columns text) (tilesAfter rows columns text o t))
 
     -- they are the constraints that the sheet's lists are
     pub left-is : left ≡ sheetConstraints rows columns text
     left-is =
-        ap₂ (λ (offsets numbers : List ℕ). constraints true offsets numbers) (read-offsets rows columns text o t read) (read-tiles rows columns text o t read)
+        ap₂ (λ (offsets numbers : List ℕ). lists offsets numbers) (read-offsets rows columns text o t read) (read-tiles rows columns text o t read)
 
     -- where both calls pass, the lent slice of sets has 1 at an unseeded bay whose field is `0`
     module _ (sets : List ℕ) (found : allowedVerdict s (length sets) left ≡ passes) where
@@ -135,16 +135,13 @@ module _ (s : System) (text : List ℕ) (bay : ℕ) (inside : bay < bays (s .siz
 
       some-strand : 1 ≤ s .sizes .strands
       some-strand =
-          let z = s .sizes in
-          let glues-on = gluesVerdict (z .glues) (s .strandGlues) (s .scaffold) ▷ energiesVerdict (s .deltaG) (s .entropy) (s .logs) ▷ seedsVerdict z (s .seeds) in
-          let sets-on = shapeVerdict z (length sets) left ▷ emptyVerdict (z .rows) (z .cols) (setsOf s left) in
-          let sizes = first-passes (sizesVerdict s) glues-on (first-passes (systemVerdict s) sets-on found) in
-          shaped s sizes .sizes .some-strands
+          let given = givenVerdict s (length sets) left in
+          let empty = emptyVerdict rows columns (setsOf s left) in
+          is-fine s (length sets) left (first-passes given empty found) .shape .sizes .some-strands
 
-      pub sheet-keeps-empty : seedAt columns (s .seeds) bay ≡ Unseeded → bayContent rows columns text bay ≡ 48 ∷ [] → getD (setsAfter s left sets) bay 0 ≡ 1
+      pub sheet-keeps-empty : seedOf s bay ≡ Unseeded → bayContent rows columns text bay ≡ 48 ∷ [] → getD (setsAfter s left sets) bay 0 ≡ 1
       sheet-keeps-empty unseeded e = set-left ∙ ap (λ (c : Constraints). setAt s c bay) left-is ∙ field-0-keeps-empty some-strand unseeded e
 
       -- and at a bay whose field has no content the set that the bay has without constraints
-      pub sheet-restricts-nothing : bayContent rows columns text bay ≡ [] → (offsets tiles : List ℕ)
-          → getD (setsAfter s left sets) bay 0 ≡ setAt s (constraints false offsets tiles) bay
-      sheet-restricts-nothing e offsets tiles = set-left ∙ ap (λ (c : Constraints). setAt s c bay) left-is ∙ no-content-restricts-nothing e offsets tiles
+      pub sheet-restricts-nothing : bayContent rows columns text bay ≡ [] → getD (setsAfter s left sets) bay 0 ≡ setAt s absent bay
+      sheet-restricts-nothing e = set-left ∙ ap (λ (c : Constraints). setAt s c bay) left-is ∙ no-content-restricts-nothing e

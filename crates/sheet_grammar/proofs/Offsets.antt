@@ -13,7 +13,7 @@ use borrow.Author.Tests.{eqb-true, eq-eqb, le-leb}
 use Rattle.text_entries.specs.Entries.{part, offsetsFit, offsetsFrom}
 use Rattle.text_entries.proofs.Bounds.{entry-starts, offset-within, length-part}
 use Rattle.units.proofs.Tests.{both}
-use Rattle.bay_lists.specs.Lists.{Constraints, constraints, listOf, offsetsShaped}
+use Rattle.bay_lists.specs.Lists.{Constraints, listOf, offsetsShaped, lists}
 use Rattle.sheet_cells.specs.Cells.{allTiles, starts}
 use Rattle.sheet_grammar.specs.Contents.{listsOf}
 
@@ -45,7 +45,7 @@ starts-fit end last n (l ∷ ls) h k =
     let fits : n ≤ end = omega arith in
     rw (le-leb last n h, le-leb n end fits) (starts-fit end n (n + length l) ls (omega arith) (omega arith))
 
-pub starts-shaped : (ls : List (List ℕ)) → offsetsShaped (length ls) (constraints true (starts 0 ls) (allTiles ls)) ≡ true
+pub starts-shaped : (ls : List (List ℕ)) → offsetsShaped (length ls) (lists (starts 0 ls) (allTiles ls)) ≡ true
 starts-shaped ls =
     rw (
       eq-eqb (length (starts 0 ls)) (length ls + 1) (length-starts 0 ls),
@@ -67,7 +67,7 @@ list-between before (l ∷ ls) (suc i) h =
     rw (append-assoc before l (allTiles ls), length-append before l) at (list-between (before ++ l) ls i (omega arith))
 
 -- the list of a bay, by the offsets and numbers of some lists, is the bay's list among them
-pub list-of-starts : (ls : List (List ℕ)) (bay : ℕ) → bay < length ls → listOf (constraints true (starts 0 ls) (allTiles ls)) bay ≡ getD ls bay []
+pub list-of-starts : (ls : List (List ℕ)) (bay : ℕ) → bay < length ls → listOf (lists (starts 0 ls) (allTiles ls)) bay ≡ getD ls bay []
 list-of-starts ls bay h = rw (add-one bay) (list-between [] ls bay h)
 
 -- ---- from the offsets to the lists
@@ -79,7 +79,7 @@ record Shaped (n : ℕ) (offsets tiles : List ℕ) : Type 0 where
   fit : offsetsFit (length tiles) offsets ≡ true
   end : getD offsets n 0 ≡ length tiles
 
-shaped : (n : ℕ) (offsets tiles : List ℕ) → offsetsShaped n (constraints true offsets tiles) ≡ true → Shaped n offsets tiles
+shaped : (n : ℕ) (offsets tiles : List ℕ) → offsetsShaped n (lists offsets tiles) ≡ true → Shaped n offsets tiles
 shaped n offsets tiles e =
     let rest = eqb (getD offsets n 0) (length tiles) in
     let a = both (eqb (length offsets) (n + 1)) (eqb (getD offsets 0 0) 0 && (offsetsFit (length tiles) offsets && rest)) e in
@@ -94,7 +94,7 @@ shaped n offsets tiles e =
 
 module _ (n : ℕ) (offsets tiles : List ℕ) (s : Shaped n offsets tiles) where
   abbrev c : Constraints
-  c = constraints true offsets tiles
+  c = lists offsets tiles
 
   abbrev offset : ℕ → ℕ
   offset bay = getD offsets bay 0
@@ -144,12 +144,12 @@ module _ (n : ℕ) (offsets tiles : List ℕ) (s : Shaped n offsets tiles) where
       (tiles-from k (bay + 1) more ∙ ap (λ (m : ℕ). drop m tiles) (sym up) ∙ sym (drop-drop (offset (bay + 1) - offset bay) (offset bay) tiles))
       ∙ take-append-drop (offset (bay + 1) - offset bay) (drop (offset bay) tiles)
 
-module _ (n : ℕ) (offsets tiles : List ℕ) (e : offsetsShaped n (constraints true offsets tiles) ≡ true) where
+module _ (n : ℕ) (offsets tiles : List ℕ) (e : offsetsShaped n (lists offsets tiles) ≡ true) where
   -- the offsets of the lists of the bays are the offsets, and their numbers are the numbers
-  pub same-offsets : starts 0 (listsOf (constraints true offsets tiles) 0 n) ≡ offsets
+  pub same-offsets : starts 0 (listsOf (lists offsets tiles) 0 n) ≡ offsets
   same-offsets =
       let s = shaped n offsets tiles e in
-      ap (λ (o : ℕ). starts o (listsOf (constraints true offsets tiles) 0 n)) (sym (s .first)) ∙ starts-from n offsets tiles s n 0 (zero-add n)
+      ap (λ (o : ℕ). starts o (listsOf (lists offsets tiles) 0 n)) (sym (s .first)) ∙ starts-from n offsets tiles s n 0 (zero-add n)
 
-  pub same-tiles : allTiles (listsOf (constraints true offsets tiles) 0 n) ≡ tiles
+  pub same-tiles : allTiles (listsOf (lists offsets tiles) 0 n) ≡ tiles
   same-tiles = let s = shaped n offsets tiles e in tiles-from n offsets tiles s n 0 (zero-add n) ∙ ap (λ (o : ℕ). drop o tiles) (s .first)

@@ -13,7 +13,7 @@ use Rattle.units.specs.Limits.{mostSide, fromOneTo}
 use Rattle.units.specs.Refusals.{Verdict, passes, refuseIf, _▷_, ifPasses}
 use Rattle.units.proofs.Verdicts.{first-passes, rest-passes, no-fault}
 use Rattle.text_put.specs.Puts.{numberText}
-use Rattle.bay_lists.specs.Lists.{Constraints, constraints, listOf, offsetsShaped}
+use Rattle.bay_lists.specs.Lists.{Constraints, listOf, offsetsShaped, lists}
 use Rattle.text_entries.specs.Entries.{part}
 use Rattle.units.proofs.Tests.{both}
 use Rattle.sheet_cells.specs.Cells.{place, sheetFault, allTiles, starts, front}
@@ -171,7 +171,7 @@ module _ (tiles : List ℕ) (small : (i : ℕ) → i < length tiles → getD til
 
 module _ (rows columns : ℕ) (offsets tiles : List ℕ) (some : 1 ≤ columns) (small : (i : ℕ) → i < length tiles → getD tiles i 0 < 2 ^ 32) where
   abbrev c : Constraints
-  c = constraints true offsets tiles
+  c = lists offsets tiles
 
   abbrev bytes : List ℕ
   bytes = sheetBytes rows columns offsets tiles
@@ -223,7 +223,7 @@ module _ (rows columns : ℕ) (offsets tiles text : List ℕ) (wrote : writeVerd
   wanted = sheetBytes rows columns offsets tiles
 
   abbrev shape-link : Verdict
-  shape-link = refuseIf (not (offsetsShaped (rows * columns) (constraints true offsets tiles))) 5 []
+  shape-link = refuseIf (not (offsetsShaped (rows * columns) (lists offsets tiles))) 5 []
 
   abbrev room-link : Verdict
   room-link = refuseIf (ltb (length text) (bytesNeeded rows columns offsets tiles)) 9 (bytesNeeded rows columns offsets tiles ∷ [])
@@ -231,10 +231,10 @@ module _ (rows columns : ℕ) (offsets tiles text : List ℕ) (wrote : writeVerd
   on-grid : (fromOneTo mostSide rows && fromOneTo mostSide columns) ≡ true
   on-grid = not-false (fromOneTo mostSide rows && fromOneTo mostSide columns) (no-fault (not (fromOneTo mostSide rows && fromOneTo mostSide columns)) 1 [] (first-passes (gridVerdict rows columns) (shape-link ▷ room-link) wrote))
 
-  of-shape : offsetsShaped (rows * columns) (constraints true offsets tiles) ≡ true
+  of-shape : offsetsShaped (rows * columns) (lists offsets tiles) ≡ true
   of-shape =
-      not-false (offsetsShaped (rows * columns) (constraints true offsets tiles))
-      (no-fault (not (offsetsShaped (rows * columns) (constraints true offsets tiles))) 5 [] (first-passes shape-link room-link (rest-passes (gridVerdict rows columns) (shape-link ▷ room-link) wrote)))
+      not-false (offsetsShaped (rows * columns) (lists offsets tiles))
+      (no-fault (not (offsetsShaped (rows * columns) (lists offsets tiles))) 5 [] (first-passes shape-link room-link (rest-passes (gridVerdict rows columns) (shape-link ▷ room-link) wrote)))
 
   -- the sheet is no longer than the text that was lent
   not-longer : length text < 2 ^ 63 → length wanted < 2 ^ 63

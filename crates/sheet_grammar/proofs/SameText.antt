@@ -1,7 +1,7 @@
 -- A text in the writer's form, read and written again, is the same text. Assumes nothing.
 use Prim.Native.Nat.{ℕ, suc, _+_, _-_, _*_, _^_, _≤_, _<_, min}
 use mathlib.Core.Path.{_≡_, refl, sym, _∙_, ap, ap₂, subst, subst₂}
-use mathlib.Core.Bool.{true, not}
+use mathlib.Core.Bool.{not}
 use mathlib.Core.List.{List, [], _∷_, _++_, append-assoc, append-nil}
 use native.Mathlib.Nat.{zero-add, add-zero}
 use native.Mathlib.Omega.{arith}
@@ -13,7 +13,7 @@ use Rattle.units.specs.Refusals.{Verdict, passes, refuseIf, ifPasses, _▷_}
 use Rattle.units.specs.Answers.{countAnswer}
 use Rattle.units.specs.declared.CountAnswer.the-variants.{Count}
 use Rattle.units.proofs.Verdicts.{first-passes}
-use Rattle.bay_lists.specs.Lists.{Constraints, constraints, listOf}
+use Rattle.bay_lists.specs.Lists.{Constraints, listOf, lists}
 use Rattle.sheet_cells.specs.Cells.{allTiles, starts, front, sheetVerdict}
 use Rattle.sheet_text.specs.Written.{spaced, separator, rowText, sheetText}
 use Rattle.sheet.specs.Read.{gridVerdict, sheetLists, tileCount, readVerdict, readAnswer}
@@ -98,7 +98,7 @@ pub same-text : {columns rows : ℕ} {t : List ℕ} {cs ls : List (List ℕ)} �
 same-text {ls = ls} s = sheet-again c s 0 (record { each = λ i h. ap (listOf c) (zero-add i) ∙ list-of-starts ls i h })
   where
     c : Constraints
-    c = constraints true (starts 0 ls) (allTiles ls)
+    c = lists (starts 0 ls) (allTiles ls)
 
 -- ---- the same of the two calls
 

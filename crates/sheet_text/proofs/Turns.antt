@@ -5,16 +5,16 @@ use mathlib.Core.List.{List, _++_}
 use mathlib.Core.Path.{_≡_, refl}
 use native.Mathlib.Omega.{arith}
 use lib.ListN.{length}
-use Rattle.bay_lists.specs.Lists.{Constraints, constraints, listOf, offsetsShaped}
-use Rattle.bay_lists.proofs.Restricting.{list-shape}
+use Rattle.bay_lists.specs.Lists.{Constraints, listOf, offsetsShaped, lists}
+use Rattle.bay_lists.proofs.Ends.{list-shape}
 use Rattle.text_put.specs.Puts.{Put}
 use Rattle.text_put.proofs.Putting.{Ending, ending-starts, ending-goes-on, ending-ends}
 use Rattle.sheet_text.specs.Written.{spaced, separator, rowText, sheetText}
 use Rattle.sheet_text.proofs.Parts.{record-next, record-end, sheet-next, sheet-end, rows-left}
 
 -- one offset more than bays was lent
-pub shaped-count : (bays : ℕ) (offsets tiles : List ℕ) → offsetsShaped bays (constraints true offsets tiles) ≡ true → length offsets ≡ bays + 1
-shaped-count bays offsets tiles e = list-shape bays true offsets tiles refl e .count
+pub shaped-count : (bays : ℕ) (offsets tiles : List ℕ) → offsetsShaped bays (lists offsets tiles) ≡ true → length offsets ≡ bays + 1
+shaped-count bays offsets tiles e = list-shape bays offsets tiles e .count
 
 -- ---- a record's turns
 

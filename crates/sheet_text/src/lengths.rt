@@ -7,16 +7,16 @@ ghost use mathlib.Core.List.{_++_};
 ghost use Prim.Native.Nat.{_+_, _*_, _≤_};
 ghost use lib.ListN.{length};
 ghost use Rattle.text_put.specs.Puts.{numberText};
-ghost use Rattle.bay_lists.specs.Lists.{constraints, offsetsShaped};
+ghost use Rattle.bay_lists.specs.Lists.{offsetsShaped, lists};
 ghost use Rattle.sheet_text.specs.Written.{gap, spaced, separator, rowText, sheetText};
 ghost use Rattle.sheet_text.specs.Lengths.{capped};
 use crate::wide;
-use bay_list_readers::bay_list;
+use bay_lists::bay_list;
 
 // The bytes of a grid's sheet.
 pub fn sheet_length(rows: usize, columns: usize, offsets: &[usize], tiles: &[u32]) -> usize
-    requires { ⌜ offsetsShaped (rows * columns) (constraints true (now offsets) (now tiles)) ≡ true ⌝ }
-    ensures { λ r. ⌜ r ≡ capped (length (sheetText (constraints true (now (offsets .entry)) (now (tiles .entry))) columns 0 rows)) ⌝ }
+    requires { ⌜ offsetsShaped (rows * columns) (lists (now offsets) (now tiles)) ≡ true ⌝ }
+    ensures { λ r. ⌜ r ≡ capped (length (sheetText (lists (now (offsets .entry)) (now (tiles .entry))) columns 0 rows)) ⌝ }
 {
     let bays = rows * columns;
     let mut total = 0;
@@ -38,16 +38,16 @@ fn record_length(
     first: usize,
     columns: usize,
 ) -> usize
-    requires { ⌜ offsetsShaped bays (constraints true (now offsets) (now tiles)) ≡ true ⌝ }
+    requires { ⌜ offsetsShaped bays (lists (now offsets) (now tiles)) ≡ true ⌝ }
     requires { ⌜ first + columns ≤ bays ⌝ }
-    ensures { λ r. ⌜ r ≡ capped (length (rowText (constraints true (now (offsets .entry)) (now (tiles .entry))) first columns)) ⌝ }
+    ensures { λ r. ⌜ r ≡ capped (length (rowText (lists (now (offsets .entry)) (now (tiles .entry))) first columns)) ⌝ }
 {
     let mut total = 0;
     let mut bay = first;
     let mut left = columns;
     while 0 < left {
         left -= 1;
-        let field = field_length(bay_list(bays, true, offsets, tiles, bay));
+        let field = field_length(bay_list(bays, offsets, tiles, bay));
         total = capped_sum(total, capped_sum(field, separator_length(left)));
         bay += 1;
     }

@@ -7,12 +7,12 @@ ghost use mathlib.Core.List.{_++_};
 ghost use Prim.Native.Nat.{_+_, _*_, _≤_};
 ghost use lib.ListN.{length};
 ghost use Rattle.text_put.specs.Puts.{Put, numberText};
-ghost use Rattle.bay_lists.specs.Lists.{constraints, offsetsShaped};
+ghost use Rattle.bay_lists.specs.Lists.{offsetsShaped, lists};
 ghost use Rattle.sheet_text.specs.Written.{gap, spaced, separator, rowText, sheetText};
 
 mod lengths;
 
-use bay_list_readers::bay_list;
+use bay_lists::bay_list;
 pub use lengths::sheet_length;
 use text_put::put_number;
 use text_put::put_text;
@@ -25,8 +25,8 @@ pub fn put_sheet(
     tiles: &[u32],
     text: &mut [u8],
 ) -> usize
-    requires { ⌜ offsetsShaped (rows * columns) (constraints true (now offsets) (now tiles)) ≡ true ⌝ }
-    ensures { λ r. ⌜ Put (now (text .entry)) 0 (sheetText (constraints true (now (offsets .entry)) (now (tiles .entry))) columns 0 rows) r (now (text .exit)) ⌝ }
+    requires { ⌜ offsetsShaped (rows * columns) (lists (now offsets) (now tiles)) ≡ true ⌝ }
+    ensures { λ r. ⌜ Put (now (text .entry)) 0 (sheetText (lists (now (offsets .entry)) (now (tiles .entry))) columns 0 rows) r (now (text .exit)) ⌝ }
 {
     let bays = rows * columns;
     let mut next = 0;
@@ -50,17 +50,17 @@ fn put_record(
     text: &mut [u8],
     at: usize,
 ) -> usize
-    requires { ⌜ offsetsShaped bays (constraints true (now offsets) (now tiles)) ≡ true ⌝ }
+    requires { ⌜ offsetsShaped bays (lists (now offsets) (now tiles)) ≡ true ⌝ }
     requires { ⌜ first + columns ≤ bays ⌝ }
     requires { ⌜ at ≤ length (now text) ⌝ }
-    ensures { λ r. ⌜ Put (now (text .entry)) at (rowText (constraints true (now (offsets .entry)) (now (tiles .entry))) first columns) r (now (text .exit)) ⌝ }
+    ensures { λ r. ⌜ Put (now (text .entry)) at (rowText (lists (now (offsets .entry)) (now (tiles .entry))) first columns) r (now (text .exit)) ⌝ }
 {
     let mut next = at;
     let mut bay = first;
     let mut left = columns;
     while 0 < left {
         left -= 1;
-        let end = put_field(bay_list(bays, true, offsets, tiles, bay), text, next);
+        let end = put_field(bay_list(bays, offsets, tiles, bay), text, next);
         next = put_separator(left, text, end);
         bay += 1;
     }

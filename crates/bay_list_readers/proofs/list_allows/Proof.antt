@@ -2,7 +2,7 @@
 use mathlib.Core.Path.{_∙_}
 use denote.Ref.{now}
 use borrow.Author.Needs.{needs}
-use Rattle.bay_list_readers.proofs.Walks.{empty-allows, some-names}
+use Rattle.bay_lists.proofs.Restricting.{empty-allows, some-names}
 use Rattle.bay_list_readers.proofs.list_allows.Statement.{statement}
 use Rattle.bay_list_readers.proofs.list_allows.Tie as tie
 

@@ -1,96 +1,97 @@
--- `run_choice_price::mfe_with_choice` meets its contract: the chain of tests, then the run. Assumes nothing.
+-- `run_choice_price::mfe_with_choice` meets its contract: refused by what was given or by the bay, or what the run comes to. Assumes nothing.
 use Prim.Native.Nat.{ℕ}
-use mathlib.Core.Path.{_≡_, _∙_}
+use mathlib.Core.Path.{_≡_, sym, _∙_, ap}
 use mathlib.Core.Bool.{Bool}
+use mathlib.Core.List.{[]}
+use lib.Dec.{leb}
 use lib.ListN.{length}
 use denote.Ref.{now}
 use borrow.Author.Needs.{needs}
-use Rattle.units.specs.Refusals.{Verdict, passes, _▷_}
-use Rattle.units.proofs.Verdicts.{passed, refused-first}
-use Rattle.bay_system.specs.System.{System, system, systemVerdict}
-use Rattle.bay_system.proofs.Fine.{fine}
+use Rattle.units.specs.Refusals.{Verdict, passes, refuseIf, check}
+use Rattle.units.proofs.Verdicts.{passed, passed-first, refused-first, Tabled}
+use Rattle.bay_system.specs.System.{System, system}
 use Rattle.bay_lists.specs.Lists.{Constraints, constraints}
-use Rattle.bay_legal.specs.Sets.{emptyVerdict}
-use Rattle.run_room.specs.Room.{roomVerdict}
-use Rattle.run_least_layout.specs.Run.{scanBy, needBy}
-use Rattle.run_sets.proofs.Finishing.{stop, past}
-use Rattle.run_choice_price.specs.Choice.{chosenLegal, chosenSets}
-use Rattle.run_choice_price.specs.Price.{choiceVerdict, earlyVerdict}
-use Rattle.run_choice_price.proofs.Priced.{priced}
+use Rattle.bay_given.specs.Given.{givenVerdict}
+use Rattle.bay_given.proofs.Passed.{is-fine}
+use Rattle.run_mfe.proofs.Promised.{refused-by, passed-by}
+use Rattle.run_choice_price.specs.Choice.{chosenLegal}
+use Rattle.run_choice_price.specs.Price.{choiceVerdict}
+use Rattle.run_choice_price.proofs.Choices.{offGrid, choice-tabled}
 use Rattle.run_choice_price.proofs.mfe_with_choice.Statement.{statement}
 use Rattle.run_choice_price.proofs.mfe_with_choice.Tie as tie
 
--- the system and the constraints that were lent, and the links of the chain
+-- the system and the constraints that were lent, what may lie where, and the links
 abbrev asked : tie.Start → System
 asked s =
     let a = s .args in
     system (a .z) (now (a .strand-glues)) (now (a .scaffold)) (now (a .delta-g)) (now (a .entropy)) (now (a .logs)) (now (a .seeds))
 
 abbrev lists : tie.Start → Constraints
-lists s = constraints (s .args .constrained) (now (s .args .offsets)) (now (s .args .tiles))
+lists s = constraints (s .args .kind) (now (s .args .offsets)) (now (s .args .tiles))
 
 abbrev may : tie.Start → ℕ → ℕ → Bool
 may s = chosenLegal (asked s) (lists s) (s .args .bay) (s .args .strand)
 
+abbrev lent : tie.Start → ℕ
+lent s = length (now (s .args .layout))
+
+abbrev given : tie.Start → Verdict
+given s = givenVerdict (asked s) (lent s) (lists s)
+
+abbrev off : tie.Start → Verdict
+off s = offGrid (asked s) (lent s) (lists s) (s .args .bay)
+
 abbrev choice : tie.Start → Verdict
-choice s = choiceVerdict (s .args .z) (length (now (s .args .layout))) (lists s) (s .args .bay)
+choice s = choiceVerdict (asked s) (lent s) (lists s) (s .args .bay)
 
-abbrev behind : tie.Start → Verdict
-behind s =
-    let a = s .args in
-    emptyVerdict (a .z .rows) (a .z .cols) (chosenSets (asked s) (lists s) (a .bay) (a .strand))
-    ▷ roomVerdict (needBy (asked s) (may s)) (length (now (a .energies))) (length (now (a .leaving)))
+tabled : (s : tie.Start) → Tabled (choice s)
+tabled s = choice-tabled (asked s) (lent s) (lists s) (s .args .bay)
 
-abbrev early : tie.Start → Verdict
-early s = let a = s .args in earlyVerdict (asked s) (lists s) (a .bay) (a .strand) (length (now (a .layout))) (length (now (a .energies))) (length (now (a .leaving)))
+-- past the first test; the second one counts the bays by the scaffold, which has one glue for each
+passes-given : (c : tie.After-enum-told) → given (c .before .before .before .before .before .before .before .before .before .before .before .before .before .before) ≡ passes
+passes-given c = passed (given (c .before .before .before .before .before .before .before .before .before .before .before .before .before .before)) (c .before .before .check-given .ensures) (c .enum-told .given .1)
 
--- past the first link, and past the second
-system-passes : (c : tie.After-enum-told) → systemVerdict (asked (c .before .before .before .before .before .before .before .before .before .before .before .before .before .before)) ≡ passes
-system-passes c = passed (systemVerdict (asked (c .before .before .before .before .before .before .before .before .before .before .before .before .before .before))) (c .before .before .check-system .ensures .1) (c .enum-told .given .1)
+off-there : (c : tie.After-check-bay) → c .check-bay .result ≡ check (choice (c .before .before .before .before .before .before .before .before .before .before .before .before .before .before .before))
+off-there c =
+    let s = c .before .before .before .before .before .before .before .before .before .before .before .before .before .before .before in
+    c .check-bay .ensures
+    ∙ ap (λ (n : ℕ). check (refuseIf (leb n (s .args .bay)) 5 [])) (is-fine (asked s) (lent s) (lists s) (passes-given (c .before)) .shape .scaffold)
+    ∙ ap check (sym (passed-first (given s) (off s) (c .before .before .before .check-given .ensures) (c .before .enum-told .given .1)))
 
-choice-passes : (c : tie.After-enum-told2) → choice (c .before .before .before .before .before .before .before .before .before .before .before .before .before .before .before .before .before) ≡ passes
-choice-passes c = passed (choice (c .before .before .before .before .before .before .before .before .before .before .before .before .before .before .before .before .before)) (c .before .before .check-choice .ensures) (c .enum-told2 .given .1)
-
-check-system-requires : tie.Need-check-system-requires
-check-system-requires c κs = search needs
+check-given-requires : tie.Need-check-given-requires
+check-given-requires c κs = search needs
 
 enum-known-r : tie.Need-enum-known-r
 enum-known-r c = search needs
 
 returns : tie.Need-returns
 returns c =
-    let first = c .before .before .before in
-    let s = first .before .before .before .before .before .before .before .before .before .before .before .before in
+    let s = c .before .before .before .before .before .before .before .before .before .before .before .before .before .before .before in
     let a = s .args in
-    priced (asked s) (lists s) (a .bay) (a .strand) (now (a .layout)) (now (a .energies)) (now (a .leaving))
-    (stop (early s) (scanBy (asked s) (may s)) (a .z .rows) (a .z .cols) (a .z .kelvin) (now (a .layout)) (now (a .energies)) (now (a .leaving))
-    (c .before .r .given .1 ∙ refused-first (systemVerdict (asked s)) (choice s ▷ behind s) (first .check-system .ensures .1) (c .before .r .given .1)) (c .before .r .given .1))
+    let refused = c .before .r .given .1 in
+    refused-by (choice s) (asked s) (may s) (tabled s) (now (a .layout)) (now (a .energies)) (now (a .leaving))
+    (refused ∙ refused-first (given s) (off s) (c .before .before .before .check-given .ensures) refused) refused
 
 enum-told : tie.Need-enum-told
 enum-told c = search needs
 
-check-choice-requires : tie.Need-check-choice-requires
-check-choice-requires c κs = let sizes = fine (asked (c .before .before .before .before .before .before .before .before .before .before .before .before .before .before)) (system-passes c) .shape .sizes in (sizes .rows, sizes .cols)
+check-bay-requires : tie.Need-check-bay-requires
+check-bay-requires c κs = search needs
 
 enum-known-r-2 : tie.Need-enum-known-r-2
 enum-known-r-2 c = search needs
 
 returns-2 : tie.Need-returns-2
 returns-2 c =
-    let second = c .before .before .before in
-    let told = second .before in
-    let s = told .before .before .before .before .before .before .before .before .before .before .before .before .before .before in
+    let s = c .before .before .before .before .before .before .before .before .before .before .before .before .before .before .before .before .before .before in
     let a = s .args in
-    priced (asked s) (lists s) (a .bay) (a .strand) (now (a .layout)) (now (a .energies)) (now (a .leaving))
-    (past (systemVerdict (asked s)) (choice s ▷ behind s) (scanBy (asked s) (may s)) (a .z .rows) (a .z .cols) (a .z .kelvin) (system-passes told)
-    (stop (choice s ▷ behind s) (scanBy (asked s) (may s)) (a .z .rows) (a .z .cols) (a .z .kelvin) (now (a .layout)) (now (a .energies)) (now (a .leaving))
-    (c .before .r2 .given .1 ∙ refused-first (choice s) (behind s) (second .check-choice .ensures) (c .before .r2 .given .1)) (c .before .r2 .given .1)))
+    refused-by (choice s) (asked s) (may s) (tabled s) (now (a .layout)) (now (a .energies)) (now (a .leaving)) (off-there (c .before .before .before)) (c .before .r2 .given .1)
 
 enum-told-2 : tie.Need-enum-told-2
 enum-told-2 c = search needs
 
 run-chosen-requires : tie.Need-run-chosen-requires
-run-chosen-requires c κs = let told2 = c .before .before .before in (system-passes (told2 .before .before .before), choice-passes told2)
+run-chosen-requires c κs = passed (choice (c .before .before .before .before .before .before .before .before .before .before .before .before .before .before .before .before .before .before .before .before)) (off-there (c .before .before .before .before .before)) (c .before .before .before .enum-told2 .given .1)
 
 same-length : tie.Need-same-length
 same-length c = search needs
@@ -103,24 +104,19 @@ same-length-3 c = search needs
 
 returns-3 : tie.Need-returns-3
 returns-3 c =
-    let call = c .before .before .before .before .before .before in
-    let told2 = call .before .before .before .before in
-    let told = told2 .before .before .before in
-    let s = told .before .before .before .before .before .before .before .before .before .before .before .before .before .before in
+    let s = c .before .before .before .before .before .before .before .before .before .before .before .before .before .before .before .before .before .before .before .before .before .before .before .before .before .before .before in
     let a = s .args in
-    priced (asked s) (lists s) (a .bay) (a .strand) (now (a .layout)) (now (a .energies)) (now (a .leaving))
-    (past (systemVerdict (asked s)) (choice s ▷ behind s) (scanBy (asked s) (may s)) (a .z .rows) (a .z .cols) (a .z .kelvin) (system-passes told)
-    (past (choice s) (behind s) (scanBy (asked s) (may s)) (a .z .rows) (a .z .cols) (a .z .kelvin) (choice-passes told2) (call .run-chosen .ensures)))
+    passed-by (choice s) (asked s) (may s) (tabled s) (now (a .energies)) (now (a .leaving)) (passed (choice s) (off-there (c .before .before .before .before .before .before .before .before .before .before .before .before)) (c .before .before .before .before .before .before .before .before .before .before .enum-told2 .given .1)) (c .before .before .before .before .before .before .run-chosen .ensures)
 
 pub mfe-with-choice-spec : {M : Type 1} → statement M
 mfe-with-choice-spec =
     tie.close
     (tie.spec
-    check-system-requires
+    check-given-requires
     enum-known-r
     returns
     enum-told
-    check-choice-requires
+    check-bay-requires
     enum-known-r-2
     returns-2
     enum-told-2

@@ -2,7 +2,7 @@
 use mathlib.Core.Bool.{true}
 use mathlib.Core.Path.{ap}
 use native.Mathlib.Omega.{arith}
-use Rattle.bay_lists.specs.Lists.{constraints}
+use Rattle.bay_lists.specs.Lists.{lists}
 use Rattle.text_put.proofs.Putting.{put-as, then-put}
 use Rattle.sheet_text.specs.Written.{spaced}
 use Rattle.sheet_text.proofs.Turns.{Row, row-starts, row-goes-on, row-ends}
@@ -11,7 +11,7 @@ use Rattle.sheet_text.proofs.put_record.Statement.{statement}
 use Rattle.sheet_text.proofs.put_record.Tie as tie
 
 abbrev Inv-loop : tie.InvT-loop
-Inv-loop bays offsets tiles first columns text₀ at next₀ bay₀ left₀ text next bay left = Row (constraints true offsets tiles) first columns text₀ at text next bay left
+Inv-loop bays offsets tiles first columns text₀ at next₀ bay₀ left₀ text next bay left = Row (lists offsets tiles) first columns text₀ at text next bay left
 
 abbrev μ-loop : tie.MeasureT-loop
 μ-loop bays offsets tiles first columns text₀ at next₀ bay₀ left₀ text next bay left = left
@@ -20,7 +20,7 @@ loop-holds : tie.Need-loop-holds Inv-loop μ-loop
 loop-holds c =
     let start = c .before .before .before in
     let a = start .args in
-    row-starts (constraints true (a .offsets .now) (a .tiles .now)) (a .first) (a .columns) (a .text .now) (a .at) (start .pre .1 .1)
+    row-starts (lists (a .offsets .now) (a .tiles .now)) (a .first) (a .columns) (a .text .now) (a .at) (start .pre .1 .1)
 
 bay-list-requires : tie.Need-bay-list-requires Inv-loop μ-loop
 bay-list-requires c κs =
@@ -51,7 +51,7 @@ loop-again c =
     let turn = list .before in
     let l = turn .before in
     let a = l .before .before .before .before .args in
-    row-goes-on (constraints true (a .offsets .now) (a .tiles .now)) (a .first) (a .columns) (a .text .now) (a .at) (l .loop .text) (l .loop .next) (l .loop .bay) (l .loop .left) (l .loop .inv)
+    row-goes-on (lists (a .offsets .now) (a .tiles .now)) (a .first) (a .columns) (a .text .now) (a .at) (l .loop .text) (l .loop .next) (l .loop .bay) (l .loop .left) (l .loop .inv)
     (turn .loop-test .taken) (then-put (put-as (ap (spaced 0) (list .bay-list .ensures)) (field .put-field .ensures)) (put .put-separator .ensures))
 
 same-length : tie.Need-same-length Inv-loop μ-loop
@@ -61,7 +61,7 @@ returns : tie.Need-returns Inv-loop μ-loop
 returns c =
     let l = c .before in
     let a = l .before .before .before .before .args in
-    row-ends (constraints true (a .offsets .now) (a .tiles .now)) (a .first) (a .columns) (a .text .now) (a .at) (l .loop .text) (l .loop .next) (l .loop .bay) (l .loop .left) (l .loop .inv) (c .loop-test .left)
+    row-ends (lists (a .offsets .now) (a .tiles .now)) (a .first) (a .columns) (a .text .now) (a .at) (l .loop .text) (l .loop .next) (l .loop .bay) (l .loop .left) (l .loop .inv) (c .loop-test .left)
 
 pub put-record-spec : {M : Type 1} → statement M
 put-record-spec =

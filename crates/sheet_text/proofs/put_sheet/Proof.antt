@@ -2,14 +2,14 @@
 use Prim.Native.Nat.{_*_}
 use mathlib.Core.Bool.{true}
 use native.Mathlib.Omega.{arith}
-use Rattle.bay_lists.specs.Lists.{constraints}
+use Rattle.bay_lists.specs.Lists.{lists}
 use Rattle.sheet_text.proofs.Parts.{row-within}
 use Rattle.sheet_text.proofs.Turns.{shaped-count, Sheet, sheet-starts, sheet-goes-on, sheet-ends}
 use Rattle.sheet_text.proofs.put_sheet.Statement.{statement}
 use Rattle.sheet_text.proofs.put_sheet.Tie as tie
 
 abbrev Inv-loop : tie.InvT-loop
-Inv-loop rows columns offsets tiles text₀ bays next₀ bay₀ left₀ text next bay left = Sheet (constraints true offsets tiles) rows columns text₀ text next bay left
+Inv-loop rows columns offsets tiles text₀ bays next₀ bay₀ left₀ text next bay left = Sheet (lists offsets tiles) rows columns text₀ text next bay left
 
 abbrev μ-loop : tie.MeasureT-loop
 μ-loop rows columns offsets tiles text₀ bays next₀ bay₀ left₀ text next bay left = left
@@ -23,7 +23,7 @@ mul-bays c =
 loop-holds : tie.Need-loop-holds Inv-loop μ-loop
 loop-holds c =
     let a = c .before .before .before .args in
-    sheet-starts (constraints true (a .offsets .now) (a .tiles .now)) (a .rows) (a .columns) (a .text .now)
+    sheet-starts (lists (a .offsets .now) (a .tiles .now)) (a .rows) (a .columns) (a .text .now)
 
 put-record-requires : tie.Need-put-record-requires Inv-loop μ-loop
 put-record-requires c κs =
@@ -53,7 +53,7 @@ loop-again c =
     let turn = c .before .before .before .before in
     let l = turn .before in
     let a = l .before .before .before .before .args in
-    sheet-goes-on (constraints true (a .offsets .now) (a .tiles .now)) (a .rows) (a .columns) (a .text .now) (l .loop .text) (l .loop .next) (l .loop .bay) (l .loop .left) (l .loop .inv)
+    sheet-goes-on (lists (a .offsets .now) (a .tiles .now)) (a .rows) (a .columns) (a .text .now) (l .loop .text) (l .loop .next) (l .loop .bay) (l .loop .left) (l .loop .inv)
     (turn .loop-test .taken) (c .before .before .put-record .ensures)
 
 same-length : tie.Need-same-length Inv-loop μ-loop
@@ -63,7 +63,7 @@ returns : tie.Need-returns Inv-loop μ-loop
 returns c =
     let l = c .before in
     let a = l .before .before .before .before .args in
-    sheet-ends (constraints true (a .offsets .now) (a .tiles .now)) (a .rows) (a .columns) (a .text .now) (l .loop .text) (l .loop .next) (l .loop .bay) (l .loop .left) (l .loop .inv) (c .loop-test .left)
+    sheet-ends (lists (a .offsets .now) (a .tiles .now)) (a .rows) (a .columns) (a .text .now) (l .loop .text) (l .loop .next) (l .loop .bay) (l .loop .left) (l .loop .inv) (c .loop-test .left)
 
 pub put-sheet-spec : {M : Type 1} → statement M
 put-sheet-spec =

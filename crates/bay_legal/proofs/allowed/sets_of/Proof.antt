@@ -1,82 +1,84 @@
--- `bay_legal::allowed::sets_of` meets its contract: 7, or the sets copied. Assumes nothing.
-use Prim.Native.Nat.{ℕ, _≤_}
-use mathlib.Core.Bool.{Bool}
+-- `bay_legal::allowed::sets_of` meets its contract: the sets are worked out aside and handed out. Assumes nothing.
+use Prim.Native.Nat.{ℕ}
+use mathlib.Core.Path.{_≡_, sym, _∙_, ap, subst}
 use mathlib.Core.List.{List}
-use native.Mathlib.Nat.{mul-le-mul}
-use native.Mathlib.Omega.{arith}
-use lib.ListN.{length}
+use lib.ListN.{length, take}
 use denote.Ref.{now}
 use borrow.Author.Needs.{needs}
-use Rattle.bay_legal_at.specs.Legal.{legalAt}
-use Rattle.bay_lists.specs.Lists.{constraints}
-use Rattle.bay_legal.proofs.Answered.{worked-refused, worked-done}
+use Rattle.bay_system.specs.System.{System, system}
+use Rattle.bay_lists.specs.Lists.{Constraints, constraints}
+use Rattle.bay_legal_at.specs.Legal.{isLegal}
+use Rattle.bay_given.specs.Filling.{Fills}
+use Rattle.bay_given.proofs.Passed.{is-fine, room, few-bays, as-read, asks}
+use Rattle.bay_legal.specs.Sets.{setsTo, emptyVerdict}
 use Rattle.bay_legal.proofs.Fronts.{front-fits, length-sets}
-use Rattle.bay_legal.specs.Sets.{setsTo}
 use Rattle.bay_legal.proofs.allowed.sets_of.Statement.{statement}
 use Rattle.bay_legal.proofs.allowed.sets_of.Tie as tie
 
--- what is legal, by what was lent
-abbrev legal : tie.Start → ℕ → ℕ → Bool
-legal s =
+-- the system and the constraints that were lent
+abbrev asked : tie.Start → System
+asked s =
     let a = s .args in
-    legalAt (a .z) (now (a .strand-glues)) (now (a .scaffold)) (now (a .delta-g)) (now (a .entropy)) (now (a .seeds)) (constraints (a .constrained) (now (a .offsets)) (now (a .tiles)))
+    system (a .z) (now (a .strand-glues)) (now (a .scaffold)) (now (a .delta-g)) (now (a .entropy)) (now (a .logs)) (now (a .seeds))
 
-abbrev sets : tie.Start → List ℕ
-sets s = setsTo (legal s) (length (now (s .args .scaffold)))
+abbrev lists : tie.Start → Constraints
+lists s = constraints (s .args .kind) (now (s .args .offsets)) (now (s .args .tiles))
 
-few-bays : (s : tie.Start) → length (now (s .args .scaffold)) ≤ 1024
-few-bays s = let sizes = s .pre .1 .1 .0 in omega (arith, sizes .2, mul-le-mul (sizes .0) (sizes .1))
+-- the sets at the front of the table, as many as the lent slice has places
+filled : (c : tie.After-fill-sets) → let s = c .before .before .before .before .before .before .before .before .before .before .before .before in
+    take (length (now (s .args .sets))) (c .fill-sets .last .1 .1 .1 .1 .1 .1 .1 .1 .0) ≡ setsTo (isLegal (asked s) (lists s)) (length (now (s .args .sets)))
+filled c =
+    let s = c .before .before .before .before .before .before .before .before .before .before .before .before in
+    let a = s .args in
+    let lent = length (now (a .sets)) in
+    let own = c .fill-sets .last .1 .1 .1 .1 .1 .1 .1 .1 .0 in
+    subst (λ (n : ℕ). take n own ≡ setsTo (isLegal (asked s) (lists s)) n) (sym (room (asked s) lent (lists s) (s .pre)))
+    (subst (λ (l : Constraints). take (length (now (a .scaffold))) own ≡ setsTo (isLegal (asked s) l) (length (now (a .scaffold))))
+    (as-read (asked s) lent (a .kind) (now (a .offsets)) (now (a .tiles)) (s .pre) (c .before .before .offsets-read .ensures)) (c .fill-sets .ensures .0))
 
-slice-aggregate-grid-sets : tie.Need-slice-aggregate-grid-sets
-slice-aggregate-grid-sets c = search needs
+offsets-read-requires : tie.Need-offsets-read-requires
+offsets-read-requires c κs = search needs
 
-grid-sets-requires : tie.Need-grid-sets-requires
-grid-sets-requires c κs =
-    let s = c .before .before .before .before .before .before .before .before .before in (s .pre .0, (s .pre .1 .0, (s .pre .1 .1 .0, few-bays s)))
+slice-aggregate-fill-sets : tie.Need-slice-aggregate-fill-sets
+slice-aggregate-fill-sets c = search needs
 
-enum-known-r : tie.Need-enum-known-r
-enum-known-r c = search needs
+fill-sets-requires : tie.Need-fill-sets-requires
+fill-sets-requires c κs =
+    let s = c .before .before .before .before .before .before .before .before .before .before .before in
+    let a = s .args in
+    let lent = length (now (a .sets)) in
+    (asks (asked s) lent (a .kind) (now (a .offsets)) (now (a .tiles)) (s .pre) (c .before .offsets-read .ensures), few-bays (asked s) lent (lists s) (s .pre))
 
-returns : tie.Need-returns
-returns c =
-    let filled = c .before .before .before .before in
-    let s = filled .before .before .before .before .before .before .before .before .before .before in
-    worked-refused (s .args .z .rows) (s .args .z .cols) (sets s) (now (s .args .sets)) (filled .grid-sets .ensures .1 .0) (c .before .r .given .1)
+slice-aggregate-hand-out : tie.Need-slice-aggregate-hand-out
+slice-aggregate-hand-out c = search needs
 
-enum-told : tie.Need-enum-told
-enum-told c = search needs
-
-slice-aggregate-copy-sets : tie.Need-slice-aggregate-copy-sets
-slice-aggregate-copy-sets c = search needs
-
-copy-sets-requires : tie.Need-copy-sets-requires
-copy-sets-requires c κs =
-    let filled = c .before .before .before .before .before in
-    let s = filled .before .before .before .before .before .before .before .before .before .before in
-    omega (arith, s .pre .1 .1 .1, front-fits (length (now (s .args .scaffold))) _ (filled .grid-sets .ensures .0) (length-sets (legal s) (length (now (s .args .scaffold)))))
+hand-out-requires : tie.Need-hand-out-requires
+hand-out-requires c κs =
+    let s = c .before .before .before .before .before .before .before .before .before .before .before .before .before .before .before in
+    let lent = length (now (s .args .sets)) in
+    let f = is-fine (asked s) lent (lists s) (s .pre) in
+    ((f .shape .sizes .rows, f .shape .sizes .cols, room (asked s) lent (lists s) (s .pre) ∙ f .shape .scaffold), front-fits lent _ (filled (c .before .before .before)) (length-sets (isLegal (asked s) (lists s)) lent))
 
 same-length : tie.Need-same-length
 same-length c = search needs
 
-returns-2 : tie.Need-returns-2
-returns-2 c =
-    let copied = c .before .before in
-    let told = copied .before .before .before in
-    let filled = copied .before .before .before .before .before .before in
-    let s = filled .before .before .before .before .before .before .before .before .before .before in
-    worked-done (s .args .z .rows) (s .args .z .cols) (sets s) (now (s .args .sets)) _ (length (now (s .args .scaffold)))
-    (filled .grid-sets .ensures .1 .0) (told .enum-told .given .1) (filled .grid-sets .ensures .0) (copied .copy-sets .ensures) (s .pre .1 .1 .1)
+returns : tie.Need-returns
+returns c =
+    let s = c .before .before .before .before .before .before .before .before .before .before .before .before .before .before .before .before .before .before in
+    let a = s .args in
+    let lent = length (now (a .sets)) in
+    let count = room (asked s) lent (lists s) (s .pre) ∙ is-fine (asked s) lent (lists s) (s .pre) .shape .scaffold in
+    subst (λ (l : List ℕ). Fills (emptyVerdict (a .z .rows) (a .z .cols) l) l (now (a .sets)) (c .before .before .hand-out .result) (c .before .before .hand-out .last .1 .1 .1 .0))
+    (filled (c .before .before .before .before .before .before) ∙ ap (setsTo (isLegal (asked s) (lists s))) count) (c .before .before .hand-out .ensures)
 
 pub sets-of-spec : {M : Type 1} → statement M
 sets-of-spec =
     tie.close
     (tie.spec
-    slice-aggregate-grid-sets
-    grid-sets-requires
-    enum-known-r
-    returns
-    enum-told
-    slice-aggregate-copy-sets
-    copy-sets-requires
+    offsets-read-requires
+    slice-aggregate-fill-sets
+    fill-sets-requires
+    slice-aggregate-hand-out
+    hand-out-requires
     same-length
-    returns-2)
+    returns)

@@ -1,4 +1,5 @@
 -- `bay_legal::grid::check_empty` meets its contract: a bay was found, or none. Assumes nothing.
+use mathlib.Core.Path.{_∙_}
 use native.Mathlib.Omega.{arith}
 use denote.Ref.{now}
 use borrow.Author.Needs.{needs}
@@ -12,11 +13,15 @@ first-empty-requires c κs = search needs
 bay-at-requires : tie.Need-bay-at-requires
 bay-at-requires c κs = search needs
 
+refused-with-requires : tie.Need-refused-with-requires
+refused-with-requires c κs = search needs
+
 returns : tie.Need-returns
 returns c =
-    let found = c .before .before in
+    let found = c .before .before .before in
     let s = found .before .before in
-    some-empty (s .args .rows) (s .args .cols) (now (s .args .sets)) (found .first-empty .ensures) (omega (arith, c .before .if1 .taken, s .pre .2)) (c .bay-at .ensures)
+    c .refused-with .ensures
+    ∙ some-empty (s .args .rows) (s .args .cols) (now (s .args .sets)) (found .first-empty .ensures) (omega (arith, c .before .before .if1 .taken, s .pre .2)) (c .before .bay-at .ensures)
 
 returns-2 : tie.Need-returns-2
 returns-2 c =
@@ -25,4 +30,4 @@ returns-2 c =
     none-empty (s .args .rows) (s .args .cols) (now (s .args .sets)) (found .first-empty .ensures) (omega (arith, c .if1 .left, s .pre .2))
 
 pub check-empty-spec : {M : Type 1} → statement M
-check-empty-spec = tie.close (tie.spec first-empty-requires bay-at-requires returns returns-2)
+check-empty-spec = tie.close (tie.spec first-empty-requires bay-at-requires refused-with-requires returns returns-2)

@@ -1,6 +1,8 @@
 -- `bay_reasons::bays::bay_reason` meets its contract, by the bay's seed, else its list. Assumes nothing.
+use mathlib.Core.List.{[]}
 use denote.Ref.{now}
-use Rattle.bay_lists.specs.Lists.{constraints}
+use Rattle.bay_system.specs.System.{system}
+use Rattle.bay_lists.specs.Lists.{byOffsets}
 use Rattle.bay_reasons.proofs.Chains.{seed-is-reason, list-is-reason}
 use borrow.Author.Needs.{needs}
 use Rattle.bay_reasons.proofs.bays.bay_reason.Statement.{statement}
@@ -25,13 +27,13 @@ returns : tie.Need-returns
 returns c =
     let seed = c .before .before .before in
     let a = seed .before .before .before .before .before .args in
-    seed-is-reason (a .z .cols) (now (a .seeds)) (constraints (a .constrained) (now (a .offsets)) (now (a .tiles))) (a .bay) (seed .seed-at .ensures) (c .before .strand .given .1)
+    seed-is-reason (system (a .z) [] (now (a .scaffold)) [] [] [] (now (a .seeds))) (byOffsets (now (a .offsets)) (now (a .tiles))) (a .bay) (seed .seed-at .ensures) (c .before .strand .given .1)
 
 returns-2 : tie.Need-returns-2
 returns-2 c =
     let seed = c .before .before .before .before in
     let a = seed .before .before .before .before .before .args in
-    list-is-reason (a .z .cols) (now (a .seeds)) (constraints (a .constrained) (now (a .offsets)) (now (a .tiles))) (a .bay) (seed .seed-at .ensures) (c .before .before .enum-told .given .1) (c .before .bay-list .ensures) (c .list-reason .ensures)
+    list-is-reason (system (a .z) [] (now (a .scaffold)) [] [] [] (now (a .seeds))) (byOffsets (now (a .offsets)) (now (a .tiles))) (a .bay) (seed .seed-at .ensures) (c .before .before .enum-told .given .1) (c .before .bay-list .ensures) (c .list-reason .ensures)
 
 pub bay-reason-spec : {M : Type 1} → statement M
 bay-reason-spec =

@@ -1,18 +1,27 @@
 -- `bay_reasons::rules::strand_rule` meets its contract, by the strand's number, the bay's seed, its glue and its list. Assumes nothing.
 use Prim.Native.Nat.{ℕ}
-use mathlib.Core.List.{List}
+use mathlib.Core.List.{List, []}
 use mathlib.Core.Path.{_∙_, ap}
 use denote.Ref.{now}
-use Rattle.bay_lists.specs.Lists.{constraints, listAllows}
+use Rattle.bay_system.specs.System.{System, system}
+use Rattle.bay_lists.specs.Lists.{Constraints, byOffsets, listAllows}
 use Rattle.bay_reasons.proofs.Chains.{no-strand, seeded-bay, unseeded-bay}
 use borrow.Author.Needs.{needs}
 use Rattle.bay_reasons.proofs.rules.strand_rule.Statement.{statement}
 use Rattle.bay_reasons.proofs.rules.strand_rule.Tie as tie
 
+-- the system and the lists that were lent
+abbrev asked : tie.Start → System
+asked s = let a = s .args in system (a .z) (now (a .strand-glues)) (now (a .scaffold)) (now (a .delta-g)) (now (a .entropy)) [] (now (a .seeds))
+
+abbrev lists : tie.Start → Constraints
+lists s = byOffsets (now (s .args .offsets)) (now (s .args .tiles))
+
 returns : tie.Need-returns
 returns c =
-    let a = c .before .before .before .before .before .before .before .before .before .args in
-    no-strand (a .z) (now (a .strand-glues)) (now (a .scaffold)) (now (a .delta-g)) (now (a .entropy)) (now (a .seeds)) (constraints (a .constrained) (now (a .offsets)) (now (a .tiles))) (a .bay) (a .strand) (c .if1 .taken)
+    let start = c .before .before .before .before .before .before .before .before .before in
+    let a = start .args in
+    no-strand (asked start) (lists start) (a .bay) (a .strand) (c .if1 .taken)
 
 bay-list-requires : tie.Need-bay-list-requires
 bay-list-requires c κs = search needs
@@ -42,8 +51,9 @@ returns-2 : tie.Need-returns-2
 returns-2 c =
     let seed = c .before .before .before .before in
     let list = seed .before .before in
-    let a = list .before .before .before .before .before .before .before .before .before .before .args in
-    seeded-bay (a .z) (now (a .strand-glues)) (now (a .scaffold)) (now (a .delta-g)) (now (a .entropy)) (now (a .seeds)) (constraints (a .constrained) (now (a .offsets)) (now (a .tiles))) (a .bay) (a .strand)
+    let start = list .before .before .before .before .before .before .before .before .before .before in
+    let a = start .args in
+    seeded-bay (asked start) (lists start) (a .bay) (a .strand)
     (list .before .if1 .left) (seed .seed-at .ensures)
     (seed .before .list-allows .ensures ∙ ap (λ (l : List ℕ). listAllows l (a .strand)) (list .bay-list .ensures))
     (c .before .before .seed .given .1) (c .seed-rule .ensures)
@@ -52,8 +62,9 @@ returns-3 : tie.Need-returns-3
 returns-3 c =
     let seed = c .before .before .before .before in
     let list = seed .before .before in
-    let a = list .before .before .before .before .before .before .before .before .before .before .args in
-    unseeded-bay (a .z) (now (a .strand-glues)) (now (a .scaffold)) (now (a .delta-g)) (now (a .entropy)) (now (a .seeds)) (constraints (a .constrained) (now (a .offsets)) (now (a .tiles))) (a .bay) (a .strand)
+    let start = list .before .before .before .before .before .before .before .before .before .before in
+    let a = start .args in
+    unseeded-bay (asked start) (lists start) (a .bay) (a .strand)
     (list .before .if1 .left) (seed .seed-at .ensures)
     (seed .before .list-allows .ensures ∙ ap (λ (l : List ℕ). listAllows l (a .strand)) (list .bay-list .ensures))
     (c .before .before .enum-told .given .1) (c .before .scaffold-glue-at .ensures) (c .glue-rule .ensures)

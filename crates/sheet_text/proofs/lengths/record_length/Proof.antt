@@ -5,7 +5,7 @@ use mathlib.Core.List.{List}
 use mathlib.Core.Path.{ap, _∙_}
 use native.Mathlib.Omega.{arith}
 use lib.ListN.{length}
-use Rattle.bay_lists.specs.Lists.{constraints, listOf}
+use Rattle.bay_lists.specs.Lists.{listOf, lists}
 use Rattle.sheet_text.specs.Written.{spaced, separator}
 use Rattle.sheet_text.specs.Lengths.{capped}
 use Rattle.sheet_text.proofs.Sums.{sum-of-two, RowSum, row-starts, row-goes-on, row-ends}
@@ -14,13 +14,13 @@ use Rattle.sheet_text.proofs.lengths.record_length.Statement.{statement
 use Rattle.sheet_text.proofs.lengths.record_length.Tie as tie
 
 abbrev Inv-loop : tie.InvT-loop
-Inv-loop bays offsets tiles first columns total₀ bay₀ left₀ total bay left = RowSum (constraints true offsets tiles) first columns total bay left
+Inv-loop bays offsets tiles first columns total₀ bay₀ left₀ total bay left = RowSum (lists offsets tiles) first columns total bay left
 
 abbrev μ-loop : tie.MeasureT-loop
 μ-loop bays offsets tiles first columns total₀ bay₀ left₀ total bay left = left
 
 loop-holds : tie.Need-loop-holds Inv-loop μ-loop
-loop-holds c = let a = c .before .before .args in row-starts (constraints true (a .offsets .now) (a .tiles .now)) (a .first) (a .columns)
+loop-holds c = let a = c .before .before .args in row-starts (lists (a .offsets .now) (a .tiles .now)) (a .first) (a .columns)
 
 sub-left : tie.Need-sub-left Inv-loop μ-loop
 sub-left c = c .loop-test .taken
@@ -52,7 +52,7 @@ loop-again c =
     let turn = list .before in
     let l = turn .before in
     let a = l .before .before .before .args in
-    let lists = constraints true (a .offsets .now) (a .tiles .now) in
+    let lists = lists (a .offsets .now) (a .tiles .now) in
     let two =
     sum-of-two (spaced 0 (listOf lists (l .loop .bay))) (separator (l .loop .left - 1)) (field .field-length .result) (comma .separator-length .result) (both .capped-sum .result)
     (field .field-length .ensures ∙ ap (λ (l : List ℕ). capped (length (spaced 0 l))) (list .bay-list .ensures)) (comma .separator-length .ensures) (both .capped-sum .ensures) in
@@ -63,7 +63,7 @@ returns : tie.Need-returns Inv-loop μ-loop
 returns c =
     let l = c .before in
     let a = l .before .before .before .args in
-    row-ends (constraints true (a .offsets .now) (a .tiles .now)) (a .first) (a .columns) (l .loop .total) (l .loop .bay) (l .loop .left) (l .loop .inv) (c .loop-test .left)
+    row-ends (lists (a .offsets .now) (a .tiles .now)) (a .first) (a .columns) (l .loop .total) (l .loop .bay) (l .loop .left) (l .loop .inv) (c .loop-test .left)
 
 pub record-length-spec : {M : Type 1} → statement M
 record-length-spec =

@@ -2,7 +2,7 @@
 use Prim.Native.Nat.{_*_}
 use mathlib.Core.Bool.{true}
 use native.Mathlib.Omega.{arith}
-use Rattle.bay_lists.specs.Lists.{constraints}
+use Rattle.bay_lists.specs.Lists.{lists}
 use Rattle.sheet_text.proofs.Parts.{row-within}
 use Rattle.sheet_text.proofs.Turns.{shaped-count}
 use Rattle.sheet_text.proofs.Sums.{SheetSum, sheet-starts, sheet-goes-on, sheet-ends}
@@ -11,7 +11,7 @@ use Rattle.sheet_text.proofs.lengths.sheet_length.Statement.{statement}
 use Rattle.sheet_text.proofs.lengths.sheet_length.Tie as tie
 
 abbrev Inv-loop : tie.InvT-loop
-Inv-loop rows columns offsets tiles bays total₀ bay₀ left₀ total bay left = SheetSum (constraints true offsets tiles) rows columns total bay left
+Inv-loop rows columns offsets tiles bays total₀ bay₀ left₀ total bay left = SheetSum (lists offsets tiles) rows columns total bay left
 
 abbrev μ-loop : tie.MeasureT-loop
 μ-loop rows columns offsets tiles bays total₀ bay₀ left₀ total bay left = left
@@ -23,7 +23,7 @@ mul-bays c =
     omega (arith, shaped-count (a .rows * a .columns) (a .offsets .now) (a .tiles .now) (start .pre), start .good .1 .1 .0 .0)
 
 loop-holds : tie.Need-loop-holds Inv-loop μ-loop
-loop-holds c = let a = c .before .before .args in sheet-starts (constraints true (a .offsets .now) (a .tiles .now)) (a .rows) (a .columns)
+loop-holds c = let a = c .before .before .args in sheet-starts (lists (a .offsets .now) (a .tiles .now)) (a .rows) (a .columns)
 
 record-length-requires : tie.Need-record-length-requires Inv-loop μ-loop
 record-length-requires c κs =
@@ -53,14 +53,14 @@ loop-again c =
     let turn = one .before in
     let l = turn .before in
     let a = l .before .before .before .args in
-    sheet-goes-on (constraints true (a .offsets .now) (a .tiles .now)) (a .rows) (a .columns) (l .loop .total) (l .loop .bay) (l .loop .left) (l .loop .inv) (turn .loop-test .taken)
+    sheet-goes-on (lists (a .offsets .now) (a .tiles .now)) (a .rows) (a .columns) (l .loop .total) (l .loop .bay) (l .loop .left) (l .loop .inv) (turn .loop-test .taken)
     (one .record-length .result) (c .capped-sum .result) (one .record-length .ensures) (c .capped-sum .ensures)
 
 returns : tie.Need-returns Inv-loop μ-loop
 returns c =
     let l = c .before in
     let a = l .before .before .before .args in
-    sheet-ends (constraints true (a .offsets .now) (a .tiles .now)) (a .rows) (a .columns) (l .loop .total) (l .loop .bay) (l .loop .left) (l .loop .inv) (c .loop-test .left)
+    sheet-ends (lists (a .offsets .now) (a .tiles .now)) (a .rows) (a .columns) (l .loop .total) (l .loop .bay) (l .loop .left) (l .loop .inv) (c .loop-test .left)
 
 pub sheet-length-spec : {M : Type 1} → statement M
 sheet-length-spec =

@@ -1,0 +1,2 @@
+pub mod RunBy
+pub mod Run
