@@ -2,11 +2,11 @@
 use Prim.Native.Nat.{ℕ, _+_, _-_, _*_, _≤_, _<_}
 use mathlib.Core.Bool.{true}
 use mathlib.Core.List.{List, _++_}
-use mathlib.Core.Path.{_≡_, refl}
+use mathlib.Core.Path.{_≡_, refl, sym, ap, subst}
 use native.Mathlib.Omega.{arith}
 use lib.ListN.{length}
-use Rattle.bay_lists.specs.Lists.{Constraints, listOf, offsetsShaped, lists}
-use Rattle.bay_lists.proofs.Ends.{list-shape}
+use Rattle.bay_lists.specs.Lists.{Constraints, lists, byOffsets, listOf, offsetsShaped}
+use Rattle.bay_lists.proofs.Ends.{list-shape, some-offset}
 use Rattle.text_put.specs.Puts.{Put}
 use Rattle.text_put.proofs.Putting.{Ending, ending-starts, ending-goes-on, ending-ends}
 use Rattle.sheet_text.specs.Written.{spaced, separator, rowText, sheetText}
@@ -15,6 +15,14 @@ use Rattle.sheet_text.proofs.Parts.{record-next, record-end, sheet-next
 -- one offset more than bays was lent
 pub shaped-count : (bays : ℕ) (offsets tiles : List ℕ) → offsetsShaped bays (lists offsets tiles) ≡ true → length offsets ≡ bays + 1
 shaped-count bays offsets tiles e = list-shape bays offsets tiles e .count
+
+-- the reader of a bay's list is asked with the offsets alone: where they have their shape it is of the lists
+pub reads-shaped : (bays : ℕ) (offsets tiles : List ℕ) → offsetsShaped bays (lists offsets tiles) ≡ true → offsetsShaped bays (byOffsets offsets tiles) ≡ true
+reads-shaped bays offsets tiles e = subst (λ (c : Constraints). offsetsShaped bays c ≡ true) (sym (some-offset bays offsets tiles e)) e
+
+pub reads-list : (bays : ℕ) (offsets tiles : List ℕ) (bay : ℕ) → offsetsShaped bays (lists offsets tiles) ≡ true
+    → listOf (byOffsets offsets tiles) bay ≡ listOf (lists offsets tiles) bay
+reads-list bays offsets tiles bay e = ap (λ (c : Constraints). listOf c bay) (some-offset bays offsets tiles e)
 
 -- ---- a record's turns
 

@@ -1,11 +1,10 @@
 -- `put_record` meets its contract: the invariant is that what is left of the record ends it. Assumes nothing.
-use mathlib.Core.Bool.{true}
-use mathlib.Core.Path.{ap}
+use mathlib.Core.Path.{ap, _∙_}
 use native.Mathlib.Omega.{arith}
 use Rattle.bay_lists.specs.Lists.{lists}
 use Rattle.text_put.proofs.Putting.{put-as, then-put}
 use Rattle.sheet_text.specs.Written.{spaced}
-use Rattle.sheet_text.proofs.Turns.{Row, row-starts, row-goes-on, row-ends}
+use Rattle.sheet_text.proofs.Turns.{reads-shaped, reads-list, Row, row-starts, row-goes-on, row-ends}
 use borrow.Author.Needs.{needs}
 use Rattle.sheet_text.proofs.put_record.Statement.{statement}
 use Rattle.sheet_text.proofs.put_record.Tie as tie
@@ -26,8 +25,9 @@ bay-list-requires : tie.Need-bay-list-requires Inv-loop μ-loop
 bay-list-requires c κs =
     let l = c .before in
     let start = l .before .before .before .before in
+    let a = start .args in
     let bays = l .loop .inv .bays in
-    (start .pre .0, omega (arith, c .loop-test .taken, start .pre .1 .0))
+    (reads-shaped (a .bays) (a .offsets .now) (a .tiles .now) (start .pre .0), omega (arith, c .loop-test .taken, start .pre .1 .0))
 
 put-field-requires : tie.Need-put-field-requires Inv-loop μ-loop
 put-field-requires c κs = let l = c .before .before .before in l .loop .inv .ending .within
@@ -50,9 +50,11 @@ loop-again c =
     let list = field .before .before in
     let turn = list .before in
     let l = turn .before in
-    let a = l .before .before .before .before .args in
+    let start = l .before .before .before .before in
+    let a = start .args in
+    let own = list .bay-list .ensures ∙ reads-list (a .bays) (a .offsets .now) (a .tiles .now) (l .loop .bay) (start .pre .0) in
     row-goes-on (lists (a .offsets .now) (a .tiles .now)) (a .first) (a .columns) (a .text .now) (a .at) (l .loop .text) (l .loop .next) (l .loop .bay) (l .loop .left) (l .loop .inv)
-    (turn .loop-test .taken) (then-put (put-as (ap (spaced 0) (list .bay-list .ensures)) (field .put-field .ensures)) (put .put-separator .ensures))
+    (turn .loop-test .taken) (then-put (put-as (ap (spaced 0) own) (field .put-field .ensures)) (put .put-separator .ensures))
 
 same-length : tie.Need-same-length Inv-loop μ-loop
 same-length c = c .before .loop .inv .ending .long

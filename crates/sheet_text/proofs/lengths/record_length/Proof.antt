@@ -8,6 +8,7 @@ use lib.ListN.{length}
 use Rattle.bay_lists.specs.Lists.{listOf, lists}
 use Rattle.sheet_text.specs.Written.{spaced, separator}
 use Rattle.sheet_text.specs.Lengths.{capped}
+use Rattle.sheet_text.proofs.Turns.{reads-shaped, reads-list}
 use Rattle.sheet_text.proofs.Sums.{sum-of-two, RowSum, row-starts, row-goes-on, row-ends}
 use borrow.Author.Needs.{needs}
 use Rattle.sheet_text.proofs.lengths.record_length.Statement.{statement}
@@ -29,8 +30,9 @@ bay-list-requires : tie.Need-bay-list-requires Inv-loop μ-loop
 bay-list-requires c κs =
     let l = c .before in
     let start = l .before .before .before in
+    let a = start .args in
     let bays = l .loop .inv .bays in
-    (start .pre .0, omega (arith, c .loop-test .taken, start .pre .1))
+    (reads-shaped (a .bays) (a .offsets .now) (a .tiles .now) (start .pre .0), omega (arith, c .loop-test .taken, start .pre .1))
 
 add-bay : tie.Need-add-bay Inv-loop μ-loop
 add-bay c =
@@ -51,12 +53,14 @@ loop-again c =
     let list = field .before in
     let turn = list .before in
     let l = turn .before in
-    let a = l .before .before .before .args in
-    let lists = lists (a .offsets .now) (a .tiles .now) in
+    let start = l .before .before .before in
+    let a = start .args in
+    let own = lists (a .offsets .now) (a .tiles .now) in
+    let list-is = list .bay-list .ensures ∙ reads-list (a .bays) (a .offsets .now) (a .tiles .now) (l .loop .bay) (start .pre .0) in
     let two =
-    sum-of-two (spaced 0 (listOf lists (l .loop .bay))) (separator (l .loop .left - 1)) (field .field-length .result) (comma .separator-length .result) (both .capped-sum .result)
-    (field .field-length .ensures ∙ ap (λ (l : List ℕ). capped (length (spaced 0 l))) (list .bay-list .ensures)) (comma .separator-length .ensures) (both .capped-sum .ensures) in
-    row-goes-on lists (a .first) (a .columns) (l .loop .total) (l .loop .bay) (l .loop .left) (l .loop .inv) (turn .loop-test .taken) (both .capped-sum .result) (c .capped-sum2 .result) two
+    sum-of-two (spaced 0 (listOf own (l .loop .bay))) (separator (l .loop .left - 1)) (field .field-length .result) (comma .separator-length .result) (both .capped-sum .result)
+    (field .field-length .ensures ∙ ap (λ (l : List ℕ). capped (length (spaced 0 l))) list-is) (comma .separator-length .ensures) (both .capped-sum .ensures) in
+    row-goes-on own (a .first) (a .columns) (l .loop .total) (l .loop .bay) (l .loop .left) (l .loop .inv) (turn .loop-test .taken) (both .capped-sum .result) (c .capped-sum2 .result) two
     (c .capped-sum2 .ensures)
 
 returns : tie.Need-returns Inv-loop μ-loop
