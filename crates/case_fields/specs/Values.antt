@@ -8,6 +8,10 @@ use Rattle.text_digits.specs.declared.kinds.Number.{Number}
 use Rattle.case_lists.specs.Lists.{values, counted, front}
 use Rattle.case_lists.specs.declared.Count.{Count}
 
+-- the value of the field with that key, or another where the line has no such field
+abbrev pub fieldOr : (key line missing : List ℕ) → List ℕ
+fieldOr key line missing = cond (anyField key (words line)) (firstField key (words line)) missing
+
 -- how many items the field with that key has, as its value is cut; unreadable where the line has no such field
 unfoldable pub fieldCount : (List ℕ → Bool) → (List ℕ → List (List ℕ)) → (key line : List ℕ) → (room : ℕ) → Count
 fieldCount ok cut key line room = cond (anyField key (words line)) (counted ok (cut (firstField key (words line))) room) Count.Unreadable

@@ -6,7 +6,7 @@ ghost use Rattle.text_digits.specs.Digits.{worth, isNumber, numberOf, isFloat, 
 ghost use Rattle.case_text.specs.Fields.{words, firstField};
 ghost use Rattle.case_lists.specs.Lists.{items};
 ghost use Rattle.case_lists.specs.Text.{signs, isSign, byteOf};
-ghost use Rattle.case_fields.specs.Values.{fieldCount, fieldFront, numberOr};
+ghost use Rattle.case_fields.specs.Values.{fieldOr, fieldCount, fieldFront, numberOr};
 use case_lists::Count;
 use case_lists::bytes_into;
 use case_lists::floats_into;
@@ -20,15 +20,23 @@ use case_text::float;
 use case_text::has_field;
 use case_text::number;
 
+// The value of a field, or `missing` where the line has none. Neither a text nor an item of a list
+// is read from a `%` alone, so that a missing field is unreadable where `missing` is one.
+fn field_or<'a>(line: &'a [u8], key: &[u8], missing: &'a [u8]) -> &'a [u8]
+    ensures { λ r. ⌜ now r ≡ fieldOr (now (key .entry)) (now (line .entry)) (now (missing .entry)) ⌝ }
+{
+    if has_field(line, key) {
+        return field(line, key);
+    }
+    missing
+}
+
 // Writes the text of a field to the front of `room`.
 pub fn text_field(line: &[u8], key: &[u8], room: &mut [u8]) -> Count
     ensures { λ r. ⌜ r ≡ fieldCount isSign signs (now (key .entry)) (now (line .entry)) (length (now (room .entry))) ⌝ }
     ensures { λ _. ⌜ now (room .exit) ≡ fieldFront isSign byteOf signs (now (key .entry)) (now (line .entry)) (now (room .entry)) ⌝ }
 {
-    if has_field(line, key) {
-        return text_into(field(line, key), room);
-    }
-    Count::Unreadable
+    text_into(field_or(line, key, b"%"), room)
 }
 
 // Writes the numbers of a field to the front of `room`, each below 2^8.
@@ -36,10 +44,7 @@ pub fn bytes_field(line: &[u8], key: &[u8], room: &mut [u8]) -> Count
     ensures { λ r. ⌜ r ≡ fieldCount (isNumber (2 ^ 8)) items (now (key .entry)) (now (line .entry)) (length (now (room .entry))) ⌝ }
     ensures { λ _. ⌜ now (room .exit) ≡ fieldFront (isNumber (2 ^ 8)) (worth 10 0) items (now (key .entry)) (now (line .entry)) (now (room .entry)) ⌝ }
 {
-    if has_field(line, key) {
-        return bytes_into(field(line, key), room);
-    }
-    Count::Unreadable
+    bytes_into(field_or(line, key, b"%"), room)
 }
 
 // Writes the numbers of a field to the front of `room`, each below 2^32.
@@ -47,10 +52,7 @@ pub fn small_numbers_field(line: &[u8], key: &[u8], room: &mut [u32]) -> Count
     ensures { λ r. ⌜ r ≡ fieldCount (isNumber (2 ^ 32)) items (now (key .entry)) (now (line .entry)) (length (now (room .entry))) ⌝ }
     ensures { λ _. ⌜ now (room .exit) ≡ fieldFront (isNumber (2 ^ 32)) (worth 10 0) items (now (key .entry)) (now (line .entry)) (now (room .entry)) ⌝ }
 {
-    if has_field(line, key) {
-        return small_numbers_into(field(line, key), room);
-    }
-    Count::Unreadable
+    small_numbers_into(field_or(line, key, b"%"), room)
 }
 
 // Writes the numbers of a field to the front of `room`.
@@ -58,10 +60,7 @@ pub fn numbers_field(line: &[u8], key: &[u8], room: &mut [usize]) -> Count
     ensures { λ r. ⌜ r ≡ fieldCount (isNumber (2 ^ 64)) items (now (key .entry)) (now (line .entry)) (length (now (room .entry))) ⌝ }
     ensures { λ _. ⌜ now (room .exit) ≡ fieldFront (isNumber (2 ^ 64)) (worth 10 0) items (now (key .entry)) (now (line .entry)) (now (room .entry)) ⌝ }
 {
-    if has_field(line, key) {
-        return numbers_into(field(line, key), room);
-    }
-    Count::Unreadable
+    numbers_into(field_or(line, key, b"%"), room)
 }
 
 // Writes the floats of a field to the front of `room`.
@@ -69,10 +68,7 @@ pub fn floats_field(line: &[u8], key: &[u8], room: &mut [f64]) -> Count
     ensures { λ r. ⌜ r ≡ fieldCount isFloat items (now (key .entry)) (now (line .entry)) (length (now (room .entry))) ⌝ }
     ensures { λ _. ⌜ now (room .exit) ≡ fieldFront isFloat floatIn items (now (key .entry)) (now (line .entry)) (now (room .entry)) ⌝ }
 {
-    if has_field(line, key) {
-        return floats_into(field(line, key), room);
-    }
-    Count::Unreadable
+    floats_into(field_or(line, key, b"%"), room)
 }
 
 // The number of a field. A missing field has no digits, so it is unreadable.

@@ -4,10 +4,10 @@
 // the front stays.
 mod lists;
 mod text;
+mod walk;
 
 pub use lists::bytes_into;
 pub use lists::floats_into;
-pub use lists::item_count;
 pub use lists::numbers_into;
 pub use lists::small_numbers_into;
 pub use text::text_into;

@@ -1,5 +1,4 @@
 // The fields of a system in a case line (docs/CASES.md, "Calls on systems"), read to the fronts of lent tables.
-ghost use lib.ListN.{length};
 ghost use Rattle.case_systems.specs.Within.{Within};
 
 mod lists;
@@ -43,7 +42,7 @@ pub fn read_system(
     logs: &mut [f64],
     seeds: &mut [u32],
 ) -> SystemRead
-    ensures { λ r. ⌜ Within r (length (now («strand_glues» .entry))) (length (now (scaffold .entry))) (length (now («delta_g» .entry))) (length (now (entropy .entry))) (length (now (logs .entry))) (length (now (seeds .entry))) ⌝ }
+    ensures { λ r. ⌜ Within r (now («strand_glues» .entry)) (now (scaffold .entry)) (now («delta_g» .entry)) (now (entropy .entry)) (now (logs .entry)) (now (seeds .entry)) ⌝ }
 {
     let sizes = read_sizes(line);
     let lists = lists_into(line, strand_glues, scaffold, logs, seeds);

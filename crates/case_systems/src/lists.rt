@@ -1,5 +1,4 @@
 // The lists of a system: glues, logarithms and seeds.
-ghost use lib.ListN.{length};
 ghost use Rattle.case_systems.specs.Within.{ListsWithin};
 use case_field_reads::floats_field;
 use case_field_reads::small_numbers_field;
@@ -26,7 +25,7 @@ pub(crate) fn lists_into(
     logs: &mut [f64],
     seeds: &mut [u32],
 ) -> Lists
-    ensures { λ r. ⌜ ListsWithin r (length (now («strand_glues» .entry))) (length (now (scaffold .entry))) (length (now (logs .entry))) (length (now (seeds .entry))) ⌝ }
+    ensures { λ r. ⌜ ListsWithin r (now («strand_glues» .entry)) (now (scaffold .entry)) (now (logs .entry)) (now (seeds .entry)) ⌝ }
 {
     let own = small_numbers_field(line, b"strand_glues", strand_glues);
     let bays = small_numbers_field(line, b"scaffold", scaffold);

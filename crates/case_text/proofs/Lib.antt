@@ -1,4 +1,3 @@
 pub mod Cuts
 pub mod Examples
-pub mod Sameness
 pub mod Words

@@ -5,14 +5,9 @@ use mathlib.Core.List.{List, [], _∷_}
 use mathlib.Core.Path.{_≡_}
 use lib.Dec.{eqb, ltb}
 use lib.ListN.{length, take, drop}
-use Rattle.case_text.specs.Places.{before, placeOf, parts}
-
--- whether two texts are the same, byte by byte
-unfoldable pub sameBytes : List ℕ → List ℕ → Bool
-sameBytes [] [] = true
-sameBytes [] (y ∷ ys) = false
-sameBytes (x ∷ xs) [] = false
-sameBytes (x ∷ xs) (y ∷ ys) = eqb x y && sameBytes xs ys
+use Rattle.bytes.specs.Bytes.{indexOf}
+use Rattle.text_entries.specs.Entries.{sameBytes}
+use Rattle.case_text.specs.Places.{placeOf, parts}
 
 -- a line is a case where it has bytes and the first is no `#`
 abbrev pub isCase : List ℕ → Bool
@@ -21,7 +16,7 @@ isCase (x ∷ xs) = not (eqb x 35)
 
 -- what stands before the line's first space
 abbrev pub callName : List ℕ → List ℕ
-callName line = take (before 32 line) line
+callName line = take (indexOf 32 line) line
 
 -- a list without its first element
 unfoldable pub rest : List (List ℕ) → List (List ℕ)
@@ -35,11 +30,11 @@ words line = rest (parts 32 line)
 
 -- a word is a field with that key where it has an `=`, and what stands before the first one is the key
 unfoldable pub hasKey : List ℕ → List ℕ → Bool
-hasKey key word = ltb (before 61 word) (length word) && sameBytes (take (before 61 word) word) key
+hasKey key word = ltb (indexOf 61 word) (length word) && sameBytes (take (indexOf 61 word) word) key
 
 -- what stands after the word's first `=`
 unfoldable pub valueIn : List ℕ → List ℕ
-valueIn word = drop (suc (before 61 word)) word
+valueIn word = drop (suc (indexOf 61 word)) word
 
 -- whether one of the words is a field with that key
 unfoldable pub anyField : List ℕ → List (List ℕ) → Bool

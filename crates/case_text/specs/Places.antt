@@ -1,18 +1,14 @@
 -- What the contracts cite of places in a text, and of the parts that a byte cuts it into: lines, words and items. Assumes nothing.
-use Prim.Native.Nat.{ℕ, zero, suc, _+_, _≤_, min}
+use Prim.Native.Nat.{ℕ, _+_, _≤_, min}
 use mathlib.Core.Bool.{cond}
 use mathlib.Core.List.{List, [], _∷_}
 use lib.Dec.{eqb}
 use lib.ListN.{length, drop}
-
--- how many bytes stand before the first b, all of them where there is none
-unfoldable pub before : ℕ → List ℕ → ℕ
-before b [] = zero
-before b (x ∷ xs) = cond (eqb x b) zero (suc (before b xs))
+use Rattle.bytes.specs.Bytes.{indexOf}
 
 -- the first place of b at or after `from`, or the text's length where there is none
 unfoldable pub placeOf : ℕ → List ℕ → ℕ → ℕ
-placeOf b text from = min from (length text) + before b (drop from text)
+placeOf b text from = min from (length text) + indexOf b (drop from text)
 
 -- r is a place from `from` to the text's end: what `&text[from..r]` asks
 abbrev pub Onward : ℕ → List ℕ → ℕ → Type 0

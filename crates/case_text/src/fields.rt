@@ -1,23 +1,14 @@
 // A case line: the name of its call, and its fields by their keys.
 ghost use mathlib.Core.Path.{_≡_};
-ghost use Rattle.case_text.specs.Fields.{sameBytes, isCase, callName, words, hasKey, valueIn, anyField, firstField, FieldAt};
+ghost use Rattle.text_entries.specs.Entries.{sameBytes};
+ghost use Rattle.case_text.specs.Fields.{isCase, callName, words, hasKey, valueIn, anyField, firstField, FieldAt};
 use crate::places::place_of;
 
 // Whether two names have the same bytes.
 pub fn same(a: &[u8], b: &[u8]) -> bool
     ensures { λ r. ⌜ r ≡ sameBytes (now (a .entry)) (now (b .entry)) ⌝ }
 {
-    if a.len() != b.len() {
-        return false;
-    }
-    let mut i = 0;
-    while i < a.len() {
-        if a[i] != b[i] {
-            return false;
-        }
-        i += 1;
-    }
-    true
+    text_entries::same_bytes(a, b)
 }
 
 // Whether a line is a case: it has bytes, and the first is no `#`.

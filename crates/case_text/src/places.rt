@@ -7,14 +7,10 @@ pub(crate) fn place_of(text: &[u8], from: usize, byte: u8) -> usize
     ensures { λ r. ⌜ r ≡ placeOf byte (now (text .entry)) from ⌝ }
     ensures { λ r. ⌜ Onward from (now (text .entry)) r ⌝ }
 {
-    let mut i = from;
-    while i < text.len() {
-        if text[i] == byte {
-            return i;
-        }
-        i += 1;
+    if text.len() <= from {
+        return text.len();
     }
-    text.len()
+    bytes::scan::find(text, from, text.len(), byte)
 }
 
 // The place of the next line feed at or after `from`, or the text's length where there is none.

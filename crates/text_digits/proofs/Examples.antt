@@ -1,4 +1,4 @@
--- The definitions at small texts, computed: what docs/CASES.md says of numbers and floats. Assumes nothing.
+-- The definitions at small texts, computed. Assumes nothing.
 use Prim.Native.Nat.{ℕ, _^_}
 use mathlib.Core.Bool.{false}
 use mathlib.Core.List.{List, [], _∷_, _++_}

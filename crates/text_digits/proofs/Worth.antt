@@ -8,26 +8,13 @@ use native.Mathlib.Numerals.{add-one}
 use native.Mathlib.Omega.{arith}
 use borrow.Author.Tests.{lt-ltb, le-ltb, le-leb, lt-leb, eq-eqb, ne-eqb, ltb-true, ltb-false}
 use lib.Dec.{ltb, leb, lit<}
-use lib.Ieee.{Float, binary64, ofBits}
+use lib.Ieee.{binary64, ofBits}
 use lib.ListN.{length, getD, drop, drop-of-length-le}
 use lib.Seq.{drop-cons}
-use Rattle.text_digits.specs.Digits.{digit, allDigits, worth, wholeOf, isNumber, numberOf, isFloat, floatIn, floatOf}
+use Rattle.text_digits.specs.Digits.{digit, allDigits, worth, wholeOf, isNumber, numberOf, isFloat, bitsOf, floatIn, floatOf}
 use Rattle.text_digits.specs.declared.kinds.FloatValue.{FloatValue}
 use Rattle.text_digits.specs.declared.kinds.Number.{Number}
-
--- ---- two tests in a row
-
-pub and-false : (a : Bool) → a && false ≡ false
-and-false true = refl
-and-false false = refl
-
-pub and-left : (a b : Bool) → a && b ≡ true → a ≡ true
-and-left true b e = refl
-and-left false b e = e
-
-pub and-right : (a b : Bool) → a && b ≡ true → b ≡ true
-and-right true b e = e
-and-right false b e = let z : _≡_ {A = ℕ} 0 1 = cc in absurd (omega arith)
+pub use Rattle.units.proofs.Tests.{and-false, and-left, and-right}
 
 -- ---- the test against 2^64
 
@@ -164,14 +151,10 @@ pub number-not : (limit : ℕ) (value : List ℕ) → numberOf limit value ≡ N
 unfolding numberOf
 number-not limit value e = read-none (isNumber limit value) (worth 10 0 value) e
 
-pub number-small : (limit : ℕ) (value : List ℕ) (x : ℕ) → numberOf limit value ≡ Number.Of x → x < limit
+pub number-small : (limit : ℕ) (value : List ℕ) → isNumber limit value ≡ true → worth 10 0 value < limit
 unfolding isNumber
-number-small limit value x e =
-    let r = number-of limit value x e in
-    let small : ltb (worth 10 0 value) limit ≡ true = and-right (leb 1 (length value) && leb (length value) 20 && allDigits 10 value) (ltb (worth 10 0 value) limit) (r .0) in
-    let bound = ltb-true (worth 10 0 value) limit small in
-    let same = r .1 in
-    omega arith
+number-small limit value e =
+    ltb-true (worth 10 0 value) limit (and-right (leb 1 (length value) && leb (length value) 20 && allDigits 10 value) (ltb (worth 10 0 value) limit) e)
 
 -- a smaller limit
 module _ (limit : ℕ) (value : List ℕ) (small : limit ≤ 2 ^ 64) where
@@ -207,36 +190,26 @@ module _ (limit : ℕ) (value : List ℕ) (small : limit ≤ 2 ^ 64) where
 
 -- ---- floats
 
-pub float-none : (value : List ℕ) → (length value ≡ 16 → ⊥) → FloatValue.Unreadable ≡ floatOf value
-unfolding floatOf isFloat
-float-none value n = rw (ne-eqb (length value) 16 n)
+pub bits-none : (value : List ℕ) → (length value ≡ 16 → ⊥) → Number.Unreadable ≡ bitsOf value
+unfolding bitsOf isFloat
+bits-none value n = rw (ne-eqb (length value) 16 n)
 
-module _ (value : List ℕ) (e : length value ≡ 16) where
-  whole-float : wholeOf 16 value ≡ cond (allDigits 16 value) (Number.Of (worth 16 0 value)) Number.Unreadable
-  whole-float = whole-16 value (omega arith)
+pub bits-whole : (value : List ℕ) → length value ≡ 16 → wholeOf 16 value ≡ bitsOf value
+unfolding bitsOf isFloat
+bits-whole value e = whole-16 value (omega arith) ∙ rw (eq-eqb (length value) 16 e) refl
 
-  pub float-read : (bits : ℕ) → wholeOf 16 value ≡ Number.Of bits → FloatValue.Of (ofBits binary64 bits) ≡ floatOf value
-  unfolding floatOf isFloat floatIn
-  float-read bits r =
-      let s = read-of (allDigits 16 value) (worth 16 0 value) bits (sym whole-float ∙ r) in
-      rw (eq-eqb (length value) 16 e, s .0, s .1)
+pub bits-of : (value : List ℕ) (x : ℕ) → bitsOf value ≡ Number.Of x → (isFloat value ≡ true) × (worth 16 0 value ≡ x)
+unfolding bitsOf
+bits-of value x e = read-of (isFloat value) (worth 16 0 value) x e
 
-  pub float-bad : wholeOf 16 value ≡ Number.Unreadable → FloatValue.Unreadable ≡ floatOf value
-  unfolding floatOf isFloat
-  float-bad r = rw (eq-eqb (length value) 16 e, read-none (allDigits 16 value) (worth 16 0 value) (sym whole-float ∙ r))
+pub bits-not : (value : List ℕ) → bitsOf value ≡ Number.Unreadable → isFloat value ≡ false
+unfolding bitsOf
+bits-not value e = read-none (isFloat value) (worth 16 0 value) e
 
-pub float-of : (value : List ℕ) (x : Float) → floatOf value ≡ FloatValue.Of x → (isFloat value ≡ true) × (floatIn value ≡ x)
+pub float-read : (value : List ℕ) (x : ℕ) → bitsOf value ≡ Number.Of x → FloatValue.Of (ofBits binary64 x) ≡ floatOf value
+unfolding floatOf floatIn
+float-read value x e = let r = bits-of value x e in rw (r .0, r .1)
+
+pub float-bad : (value : List ℕ) → bitsOf value ≡ Number.Unreadable → FloatValue.Unreadable ≡ floatOf value
 unfolding floatOf
-float-of value x e = go (isFloat value) e
-  where
-    go : (t : Bool) → cond t (FloatValue.Of (floatIn value)) FloatValue.Unreadable ≡ FloatValue.Of x → (t ≡ true) × (floatIn value ≡ x)
-    go true k = (refl, cc)
-    go false k = let z : _≡_ {A = ℕ} 0 1 = cc in absurd (omega arith)
-
-pub float-not : (value : List ℕ) → floatOf value ≡ FloatValue.Unreadable → isFloat value ≡ false
-unfolding floatOf
-float-not value e = go (isFloat value) e
-  where
-    go : (t : Bool) → cond t (FloatValue.Of (floatIn value)) FloatValue.Unreadable ≡ FloatValue.Unreadable → t ≡ false
-    go true k = let z : _≡_ {A = ℕ} 0 1 = cc in absurd (omega arith)
-    go false k = refl
+float-bad value e = rw (bits-not value e)

@@ -1,4 +1,4 @@
--- What the contracts cite of numbers and floats in a case line. Assumes nothing.
+-- What the contracts cite of numbers and floats as digits. Assumes nothing.
 use Prim.Native.Nat.{ℕ, _+_, _-_, _*_, _^_}
 use mathlib.Core.Bool.{Bool, true, cond, _&&_}
 use mathlib.Core.List.{List, [], _∷_}
@@ -37,6 +37,10 @@ numberOf limit value = cond (isNumber limit value) (Number.Of (worth 10 0 value)
 -- a float: 16 hexadecimal digits
 unfoldable pub isFloat : List ℕ → Bool
 isFloat value = eqb (length value) 16 && allDigits 16 value
+
+-- what a value is read as, as the bits of a float
+unfoldable pub bitsOf : List ℕ → Number
+bitsOf value = cond (isFloat value) (Number.Of (worth 16 0 value)) Number.Unreadable
 
 -- the float with the bits that the digits give, a NaN where they are a NaN's
 unfoldable pub floatIn : List ℕ → Float

@@ -1,8 +1,8 @@
-// Numbers in decimal digits, and floats by the hexadecimal digits of their bits, as case files have them.
+// Numbers in decimal digits, and floats by the hexadecimal digits of their bits.
 ghost use mathlib.Core.Path.{_≡_};
 ghost use Prim.Native.Nat.{_^_, _≤_, _<_};
 ghost use lib.Ieee.{binary64, ofBits};
-ghost use Rattle.text_digits.specs.Digits.{digit as Digits·digit, wholeOf, numberOf, floatOf};
+ghost use Rattle.text_digits.specs.Digits.{digit as Digits·digit, wholeOf, numberOf, bitsOf, floatOf};
 
 mod kinds;
 
@@ -26,13 +26,20 @@ pub fn number(value: &[u8]) -> Number
 pub fn float(value: &[u8]) -> FloatValue
     ensures { λ r. ⌜ r ≡ floatOf (now (value .entry)) ⌝ }
 {
-    if value.len() != 16 {
-        return FloatValue::Unreadable;
-    }
-    match whole(value, 16) {
-        Number::Of(bits) => FloatValue::Of(float_of(bits)),
+    match bits(value) {
+        Number::Of(n) => FloatValue::Of(float_of(n)),
         Number::Unreadable => FloatValue::Unreadable,
     }
+}
+
+// The bits of a float: 16 hexadecimal digits.
+pub fn bits(value: &[u8]) -> Number
+    ensures { λ r. ⌜ r ≡ bitsOf (now (value .entry)) ⌝ }
+{
+    if value.len() != 16 {
+        return Number::Unreadable;
+    }
+    whole(value, 16)
 }
 
 // What digits of a base are worth together, the highest first.
@@ -76,7 +83,7 @@ pub fn digit(b: u8) -> u64
 
 // The float of a bit pattern. A NaN's pattern has all ones in the exponent's field and a digit
 // below it, and is read as the NaN of a division.
-fn float_of(bits: u64) -> f64
+pub fn float_of(bits: u64) -> f64
     ensures { λ r. ⌜ r ≡ ofBits binary64 bits ⌝ }
 {
     let below = bits % 4503599627370496;

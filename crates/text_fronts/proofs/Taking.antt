@@ -9,7 +9,7 @@ use lib.Dec.{leb}
 use lib.ListN.{length, take}
 use lib.Seq.{length-take-le, take-all}
 
-module _ {A : Type 0} (xs : List A) (n k : ℕ) (e : k ≡ min n (length xs)) where
+module _ {A : Type 0} (xs : List A) (n : ℕ) {k : ℕ} (e : k ≡ min n (length xs)) where
   pub taken-count : k ≡ length (take k xs)
   taken-count = let h : k ≤ length xs = omega arith in sym (length-take-le k xs h)
 

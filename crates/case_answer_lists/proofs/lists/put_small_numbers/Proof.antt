@@ -1,18 +1,18 @@
 -- `lists::put_small_numbers` meets its contract: the invariant is that what is left of the list ends the line. Assumes nothing.
-use Prim.Native.Nat.{ℕ, _+_, _-_}
+use Prim.Native.Nat.{ℕ, _-_}
 use mathlib.Core.Path.{ap}
 use native.Mathlib.Omega.{arith}
-use lib.ListN.{length, getD, drop}
+use lib.ListN.{length}
 use Rattle.text_put.specs.Puts.{numberText}
-use Rattle.case_answer_lists.specs.Lists.{item, listed}
-use Rattle.text_put.proofs.Putting.{put-as, then-put, put-within, Ending, ending-starts, ending-goes-on, ending-ends}
-use Rattle.case_answer_lists.proofs.Listing.{listed-next, listed-end}
+use Rattle.case_answer_lists.specs.Lists.{item}
+use Rattle.text_put.proofs.Putting.{put-as}
+use Rattle.case_answer_lists.proofs.Listing.{Listing, listing-starts, listing-goes-on, listing-ends}
 use borrow.Author.Needs.{needs}
 use Rattle.case_answer_lists.proofs.lists.put_small_numbers.Statement.{statement}
 use Rattle.case_answer_lists.proofs.lists.put_small_numbers.Tie as tie
 
 abbrev Inv-loop : tie.InvT-loop
-Inv-loop out₀ at word table next₀ i₀ out next i = Ending out₀ next₀ (listed numberText 0 table) (listed numberText i (drop i table)) out next
+Inv-loop out₀ at word table next₀ i₀ out next i = Listing numberText table out₀ next₀ i out next
 
 abbrev μ-loop : tie.MeasureT-loop
 μ-loop out₀ at word table next₀ i₀ out next i = length table - i
@@ -21,9 +21,7 @@ put-text-requires : tie.Need-put-text-requires Inv-loop μ-loop
 put-text-requires c κs = search needs
 
 loop-holds : tie.Need-loop-holds Inv-loop μ-loop
-loop-holds c =
-    let put = c .before .before in
-    ending-starts (listed numberText 0 (put .before .before .before .before .before .args .table .now)) (put-within (put .put-text .ensures))
+loop-holds c = listing-starts (c .before .before .put-text .ensures)
 
 mul-wide : tie.Need-mul-wide Inv-loop μ-loop
 mul-wide c = omega arith
@@ -48,19 +46,13 @@ loop-again c =
     let put = c .before .before in
     let turn = put .before .before .before .before in
     let l = turn .before in
-    let table = l .before .before .before .before .before .before .before .before .args .table .now in
-    let i = l .loop .i in
-    ending-goes-on (l .loop .inv) (item i (numberText (getD table i 0))) (listed numberText (i + 1) (drop (i + 1) table)) (listed-next numberText table 0 i (turn .loop-test .taken))
-    (put-as (ap (λ (k : ℕ). item i (numberText k)) (put .before .wide .ensures)) (put .put-next-number .ensures))
+    listing-goes-on (l .loop .inv) (turn .loop-test .taken) 0 (put-as (ap (λ (k : ℕ). item (l .loop .i) (numberText k)) (put .before .wide .ensures)) (put .put-next-number .ensures))
 
 same-length : tie.Need-same-length Inv-loop μ-loop
-same-length c = let l = c .before .loop .inv .long in search needs
+same-length c = let l = c .before .loop .inv .ending .long in search needs
 
 returns : tie.Need-returns Inv-loop μ-loop
-returns c =
-    let l = c .before in
-    let table = l .before .before .before .before .before .before .before .before .args .table .now in
-    then-put (l .before .before .before .put-text .ensures) (ending-ends (l .loop .inv) (listed-end numberText table (l .loop .i) (c .loop-test .left)))
+returns c = let l = c .before in listing-ends (l .loop .inv) (c .loop-test .left) (l .before .before .before .put-text .ensures)
 
 pub put-small-numbers-spec : {M : Type 1} → statement M
 put-small-numbers-spec =

@@ -8,7 +8,8 @@ use borrow.Author.Tests.{lt-ltb, le-ltb}
 use lib.ListN.{length, take}
 use lib.Seq.{length-take-le}
 use Rattle.case_text.specs.Places.{placeOf}
-use Rattle.case_text.specs.Fields.{sameBytes, hasKey}
+use Rattle.text_entries.specs.Entries.{sameBytes}
+use Rattle.case_text.specs.Fields.{hasKey}
 use Rattle.case_text.proofs.Cuts.{place-first}
 use borrow.Author.Needs.{needs}
 use Rattle.case_text.proofs.fields.has_key.Statement.{statement}
