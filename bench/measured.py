@@ -27,7 +27,7 @@ class Measured:
 
 
 def legal(fields):
-    """The least and the greatest number of legal strands on a bay, by document 01's rule."""
+    """The least and the greatest number of legal strands on a bay, by the rule."""
     numbers = lambda key: [int(item) for item in fields.get(key, "").split(",") if item]
     cells = iter(numbers("cells"))
     bound = set(zip(cells, cells))

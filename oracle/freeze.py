@@ -1,7 +1,7 @@
 #!/usr/bin/env python3
 """Writes the answers that the port has to give: oracle/freeze.py CASES RUSTANSWERS ANSWERS
 
-Where document 01 answers, the line is the Rust's, unchanged, and behind it what only the port has (a run's ledger); where
+Where the rules answer, the line is the Rust's, unchanged, and behind it what only the port has (a run's ledger); where
 it refuses, where the Rust has no such call, and where its layout is one of several that tie, the line is the rules' (the
 modules of RULES). Every line of the Rust's is held against what the rules expect of it, also where it is not used. If one
 differs, the differences are told, nothing is written, and the exit status is 1.

@@ -65,7 +65,7 @@ class EnergyDraw(SystemDraw):
 
 
 def document_01(draw):
-    """Document 01's one bay, empty and with its strand, also without concentration."""
+    """The rules' one bay, empty and with its strand, also without concentration."""
     glues = [0, 0, 0, 0, 0, 0, 0, 1, 1, 1]
     for dg, ds in [(ONE, ZERO), (MINUS_ONE, ZERO), (ZERO, ONE), (ZERO, ZERO)]:
         for log, seeds, strand in product([ZERO, INFINITE[1]], [[], [0, 0, 1]], [0, 1]):

@@ -1,4 +1,4 @@
-"""Document 01's rules for the energy of a layout, read on their own: refusals 1 to 6 and 10, and the listing sum.
+"""The rules for the energy of a layout, read on their own: refusals 1 to 6 and 10, and the listing sum.
 
 Nothing here comes from the Rust. Beside each refusal stands what the Rust is known to do there (verdicts.py). The energy is
 worked out in Python's binary64 to hold the Rust's against it; the frozen line is the Rust's where it can be asked.

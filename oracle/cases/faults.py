@@ -1,4 +1,4 @@
-"""Ways to break a case on names: each spoils one thing that a refusal of document 01 speaks of.
+"""Ways to break a case on names: each spoils one thing that a refusal of the rules speaks of.
 
 A fault takes the draw and the fields, and gives new fields. Where several are put into one case, those that 01 tests last
 go first, because they need the fields in order.
@@ -135,7 +135,7 @@ def base(places):
 
 
 def counted(count, side):
-    """More bases than 01 has; where twice their number does not fit 64 bits, a careless side is that of no base."""
+    """More bases than the rules have; where twice their number does not fit 64 bits, a careless side is that of no base."""
     return put(count=count, side=side)
 
 

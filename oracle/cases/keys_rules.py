@@ -1,6 +1,6 @@
-"""Document 01's rules for energy keys, read on their own, as names_rules.py has them for the other calls on names.
+"""The rules for energy keys, read on their own, as names_rules.py has them for the other calls on names.
 
-A sequence's sums are worked out in Python's floats, which are binary64 and rounded at each operation, as 01 asks.
+A sequence's sums are worked out in Python's floats, which are binary64 and rounded at each operation, as the rules ask.
 """
 
 from math import isfinite, isnan

@@ -45,7 +45,7 @@ def lent(fields, energies, leaving):
 
 
 def one_bay(dg, ds, **others):
-    """Document 01's one bay and one strand."""
+    """The rules' one bay and one strand."""
     return plain(1, 1, 2, 2, strand_glues=[0] * 7 + [1] * 3, scaffold=[0], cells=[(0, 1, dg, ds)], **others)
 
 
@@ -102,7 +102,7 @@ class RunDraw(EnergyDraw):
 
 
 def document_01(draw):
-    """Document 01's own cases: one bay with its strand, its seed and its lists; the needs of two strands a bay."""
+    """The rules' own cases: one bay with its strand, its seed and its lists; the needs of two strands a bay."""
     for dg, ds in [(ONE, ZERO), (MINUS_ONE, ZERO), (ZERO, ONE), (ZERO, ZERO)]:
         yield run(one_bay(dg, ds))
         yield run(one_bay(dg, ds, seeds=[0, 0, 1], logs=[ZERO, INFINITE[1]]))

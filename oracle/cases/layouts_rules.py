@@ -1,4 +1,4 @@
-"""Document 01's rules for the least-energy run, read on their own: refusals 1 to 5 and 7 to 10, the ledger, the trace.
+"""The rules for the least-energy run, read on their own: refusals 1 to 5 and 7 to 10, the ledger, the trace.
 
 Nothing here comes from the Rust. Beside each refusal stands what the Rust is known to do there (verdicts.py). The Rust has
 no ledger: its line is the energy and the layout, and the rules add the rest. Where energies tie its layout is any of
@@ -14,7 +14,7 @@ from names_rules import kept, when
 from systems_rules import EAST, NORTH, R, SOUTH, WEST, System, legal_sets, read_constraints, scan, shapes, system
 from verdicts import CANNOT, PANICS, judged
 
-# 01's limit of rows; the rows up to which the Rust is asked, whose tables grow likewise; the rows that a line shows.
+# The rules' limit of rows; the rows up to which the Rust is asked, whose tables grow likewise; the rows that a line shows.
 LIMIT, ASKED, SHOWN = 1_048_576, 65_536, 256
 
 # Where the Rust answers though 01 refuses, and where its layout is by the order of a hash map.

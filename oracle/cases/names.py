@@ -4,7 +4,7 @@
     oracle/cases/names.py                      the cases of crates/answers_names/stdin
     oracle/cases/names.py --large N --seed S   N cases of all kinds at random, for comparisons by hand
 
-How many cases each kind has goes to standard error. The cases at 01's limits are in names_limits.py. Energy keys are drawn
+How many cases each kind has goes to standard error. The cases at the rules' limits are in names_limits.py. Energy keys are drawn
 here as well, among the names that they go by, and written by keys.py.
 """
 

@@ -1,4 +1,4 @@
-"""Cases on names at document 01's limits: sizes, lent tables, bytes of text, bases, sequences; and what is unreadable."""
+"""Cases on names at the rules' limits: sizes, lent tables, bytes of text, bases, sequences; and what is unreadable."""
 
 from draw_names import NOT_FINITE, case
 from names_rules import NUMERALS

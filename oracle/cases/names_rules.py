@@ -1,4 +1,4 @@
-"""Document 01's rules for names, read on their own: the whole answer to every case, and its refusals in 01's order.
+"""The rules for names, read on their own: the whole answer to every case, and its refusals in the rules' order.
 
 Nothing here comes from the Rust. Beside each refusal stands what the Rust is known to do there (verdicts.py).
 """
@@ -6,7 +6,7 @@ Nothing here comes from the Rust. Beside each refusal stands what the Rust is kn
 from casefile import read_bytes, read_number, read_numbers, read_or, read_text, write_list, write_text
 from verdicts import CANNOT, PANICS, judged
 
-# 01's limits. A grid with a side over the last of them is not put to the Rust, because it would have to be built.
+# The rules' limits. A grid with a side over the last of them is not put to the Rust, because it would have to be built.
 SIDE, STRANDS, TEXT, BASES, BUILT = 32, 64, 16384, 127, 256
 NUMERALS = "".join(f"{place:02}" for place in range(63)).encode()
 
@@ -76,7 +76,7 @@ class Names:
         return when(no_flags(self.present) or overruns(self.text, self.offsets), 17, CANNOT)
 
     def of_tiles(self, strands, numerals):
-        """1 and 17 of the names of tiles: entry 0 is `null`, and the numerals are 01's."""
+        """1 and 17 of the names of tiles: entry 0 is `null`, and the numerals are the rules'."""
         ones = _strands(strands) + self.ones(strands)
         seventeens = self.seventeens()
         if not cannot(ones + seventeens):

@@ -1,4 +1,4 @@
-"""Document 01's rules for sequences, read on their own: which case is refused and how, and the hundredths mode.
+"""The rules for sequences, read on their own: which case is refused and how, and the hundredths mode.
 
 Nothing here comes from the Rust, and no float is worked out. Beside each refusal stands what the Rust is known to do
 there, so that `oracle/freeze.py` can hold every line of its answers against it: PANICS, or the name of a recorded
@@ -51,12 +51,12 @@ def _limit(*sequences):
 
 
 def single(dna, which=0):
-    """What one sequence is refused for, in 01's order."""
+    """What one sequence is refused for, in the rules' order."""
     return _limit(dna) + _letters(which, dna) + ([("refused 12", PANICS)] if len(dna) < 2 else [])
 
 
 def _pair(a, b):
-    """What two sequences are refused for, in 01's order. Loops have a meaning only where all before is in order."""
+    """What two sequences are refused for, in the rules' order. Loops have a meaning only where all before is in order."""
     letters = _letters(0, a) + _letters(1, b)
     unequal = [("refused 13", PANICS)] if len(a) != len(b) else []
     loops = [] if letters or unequal else _loops(a.upper(), b.upper())
@@ -98,7 +98,7 @@ def _pair_dg_ds(fields):
 
 
 def _hundredths(fields):
-    """A call that the Rust lacks: the answer is whole numbers and is 01's own."""
+    """A call that the Rust lacks: the answer is whole numbers and is the rules' own."""
     dna = read_text(fields, "dna")
     reasons = single(dna)
     return Verdict(reasons[0][0] if reasons else f"hundredths {hundredths(dna.upper())}", "none")

@@ -23,13 +23,13 @@ SHAPES += [(5, 5), (6, 6), (7, 7), (8, 8), (5, 6), (6, 5), (12, 12)]
 
 
 def one_bay(dg, ds, **others):
-    """Document 01's one bay and one strand. Glue 1 of the strand meets glue 0 of the bay."""
+    """The rules' one bay and one strand. Glue 1 of the strand meets glue 0 of the bay."""
     glues = [0, 0, 0, 0, 0, 0, 0, 1, 1, 1]
     return plain(1, 1, 2, 2, strand_glues=glues, scaffold=[0], cells=[(0, 1, dg, ds)], **others)
 
 
 def document_01(draw):
-    """Document 01's own cases of one bay: which strands are legal, and their bonds."""
+    """The rules' own cases of one bay: which strands are legal, and their bonds."""
     for dg, ds in [(ONE, ZERO), (MINUS_ONE, ZERO), (ZERO, ONE), (ZERO, ZERO)]:
         yield from both(one_bay(dg, ds))
     yield from both(one_bay(ONE, ZERO, seeds=[0, 0, 1], logs=[ZERO, INFINITE[1]]))

@@ -1,4 +1,4 @@
-"""Ways to break a case on systems: each spoils one thing that a refusal of document 01 speaks of.
+"""Ways to break a case on systems: each spoils one thing that a refusal of the rules speaks of.
 
 A fault takes the draw and the fields, and gives new fields. Where several are put into one case, those that 01 tests last
 go first, because they need the fields in order.

@@ -1,4 +1,4 @@
-"""Cases on systems at document 01's limits and past them: refusals 1 to 5, several of them in one case, and lines that are
+"""Cases on systems at the rules' limits and past them: refusals 1 to 5, several of them in one case, and lines that are
 no case."""
 
 from itertools import combinations, product

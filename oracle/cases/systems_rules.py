@@ -1,4 +1,4 @@
-"""Document 01's rules for systems, read on their own: refusals 1 to 5 and 7 in 01's order, legal strands, and bonds.
+"""The rules for systems, read on their own: refusals 1 to 5 and 7 in the rules' order, legal strands, and bonds.
 
 Nothing here comes from the Rust. Beside each refusal stands what the Rust is known to do there (verdicts.py). Legal
 strands and bonds are worked out to hold the Rust's against them; the frozen line is the Rust's.
@@ -10,7 +10,7 @@ from casefile import Unreadable, read_float, read_floats, read_number, read_numb
 from names_rules import kept, when
 from verdicts import CANNOT, PANICS, judged
 
-# 01's limits; then the oracle's own, past which the Rust is not asked, and the longest matrix that a case can lend.
+# The rules' limits; then the oracle's own, past which the Rust is not asked, and the longest matrix that a case can lend.
 SIDE, STRANDS, GLUES = 32, 64, 256
 LONGEST_SIDE, MOST_STRANDS, LONGEST_MATRIX = 256, 128, 66049
 R, KELVIN_37 = 1.98720425864083 / 1000.0, 310.15

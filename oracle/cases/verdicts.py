@@ -1,4 +1,4 @@
-"""What a module of rules says of a case: the line that document 01 gives, and what the Rust has to answer there."""
+"""What a module of rules says of a case: the line that the rules give, and what the Rust has to answer there."""
 
 from collections.abc import Callable
 from dataclasses import dataclass
@@ -38,7 +38,7 @@ def verdict_of(line, calls):
 
 
 def judged(reasons, texts, answer=None, askable=True):
-    """The verdict on a call: its refusals in 01's order, each with what the Rust does there, the texts that the Rust is
+    """The verdict on a call: its refusals in the rules' order, each with what the Rust does there, the texts that the Rust is
     handed, whose `str` cannot hold bytes that are no UTF-8, the answer if the rules tell it, and whether the Rust can be
     asked apart from all that."""
     line = reasons[0][0] if reasons else None

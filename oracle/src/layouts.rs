@@ -23,7 +23,7 @@ fn rows_of_tables(s: &SDC2DSquare, rows: usize, cols: usize, lists: Option<&List
     (1..=counts.len()).map(table).fold(0, u64::saturating_add)
 }
 
-/// The least energy and its layout. A system that document 01 refuses with 1 to 3 is not asked: what a run reads of it
+/// The least energy and its layout. A system that the rules refuses with 1 to 3 is not asked: what a run reads of it
 /// depends on the rest.
 pub fn mfe_configuration(case: &Case) -> Result<Asked, Stop> {
     let lent = Lent::read(case)?;

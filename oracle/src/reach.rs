@@ -12,7 +12,7 @@ use ndarray::prelude::Array2;
 use std::collections::HashMap;
 use std::io::{Result, Write};
 
-/// The constants that document 01 states as facts about the Rust.
+/// The constants that the rules states as facts about the Rust.
 pub fn constants(out: &mut impl Write) -> Result<()> {
     writeln!(out, "R_VAL {}", bits(units::ask::r_val()))?;
     writeln!(out, "R {}", bits(ask::r()))?;

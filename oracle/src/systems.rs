@@ -91,7 +91,7 @@ impl Lent {
         self.strand_glues.iter().chain(&self.scaffold).all(|&glue| u64::from(glue) < self.glues)
     }
 
-    /// Sizes, temperature and energies are such as document 01 takes; logarithms and seeds aside.
+    /// Sizes, temperature and energies are such as the rules takes; logarithms and seeds aside.
     pub fn is_in_range(&self) -> bool {
         let sides = (1..=32).contains(&self.rows) && (1..=32).contains(&self.cols);
         let counts = (1..=64).contains(&self.strands) && (1..=256).contains(&self.glues);

@@ -4,7 +4,7 @@ use mathlib.Core.List.{List}
 use lib.Ieee.{Float}
 use lib.ListN.{length, getD}
 use Rattle.bay_system.specs.declared.sizes.Sizes.{Sizes}
-use Rattle.energy_bonds.specs.Readable.{Readable}
+use Rattle.bay_bonds.specs.Readable.{Readable}
 
 -- tables that bonds can be read from, and a glue below the count in each bay
 pub record Bonded (z : Sizes) (strandGlues scaffold : List ℕ) (deltaG entropy : List Float) : Type 0 where

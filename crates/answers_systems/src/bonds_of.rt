@@ -1,7 +1,7 @@
 // The call `bonds`: a system that passes its tests, and the bonds of its strands, strand 0 left out.
 ghost use Prim.Native.Nat.{_<_};
 ghost use lib.ListN.{length};
-ghost use Rattle.energy_bonds.specs.Readable.{Readable};
+ghost use Rattle.bay_bonds.specs.Readable.{Readable};
 ghost use Rattle.answers_systems.specs.Asked.{Bonded};
 use bay_system::Sizes;
 use bay_system::check_system;
@@ -100,7 +100,7 @@ fn put_bay_row(
     let mut strand = 1;
     while strand < strands {
         let own = bay_glues::strand_glues_of(strand_glues, strand);
-        let x = energy_bonds::bond_with_scaffold(delta_g, entropy, z.glues, z.kelvin, glue, own);
+        let x = bay_bonds::bond_with_scaffold(delta_g, entropy, z.glues, z.kelvin, glue, own);
         next = put_next_float(out, next, place(bay, 0, strand), x);
         strand += 1;
     }

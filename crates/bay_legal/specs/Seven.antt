@@ -1,4 +1,4 @@
--- Refusal 7 in document 01's words, over whatever says which strand is legal at which bay, as long as no strand from 64 on is. Assumes nothing.
+-- Refusal 7 in the rules' words, over whatever says which strand is legal at which bay, as long as no strand from 64 on is. Assumes nothing.
 use Prim.Native.Nat.{ℕ, _<_}
 use mathlib.Core.Path.{_≡_}
 use mathlib.Core.Bool.{Bool, true, false}

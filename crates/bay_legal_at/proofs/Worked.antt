@@ -1,4 +1,4 @@
--- Legal strands worked out: the definitions compute, and say what document 01 says. Assumes nothing.
+-- Legal strands worked out: the definitions compute, and say what the rules say. Assumes nothing.
 use Prim.Native.Nat.{ℕ}
 use mathlib.Core.Path.{_≡_, refl}
 use mathlib.Core.Bool.{true, false}

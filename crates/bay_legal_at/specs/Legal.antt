@@ -1,4 +1,4 @@
--- The legal strands of a bay, in document 01's words. Assumes nothing.
+-- The legal strands of a bay, in the rules' words. Assumes nothing.
 use Prim.Native.Nat.{ℕ, _+_, _*_}
 use mathlib.Core.Bool.{Bool, cond, _&&_}
 use mathlib.Core.List.{List, [], _∷_}

@@ -1,6 +1,6 @@
 -- What the inner functions ask of a system that passed its tests. Assumes nothing.
 use Rattle.units.specs.Limits.{mostSide}
-use Rattle.energy_bonds.specs.Readable.{Readable}
+use Rattle.bay_bonds.specs.Readable.{Readable}
 use Rattle.bay_system.specs.declared.sizes.Sizes.{Sizes}
 use Rattle.bay_legal_at.specs.declared.seeds.Seed.{Seed}
 use Rattle.bay_legal_at.specs.declared.seeds.Seed.the-variants.{Unseeded, Seeded}

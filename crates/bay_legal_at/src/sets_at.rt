@@ -5,7 +5,7 @@ ghost use mathlib.Core.List.{[]};
 ghost use lib.ListN.{length};
 ghost use Rattle.sets.specs.Set.{word};
 ghost use Rattle.bay_system.specs.System.{system};
-ghost use Rattle.energy_bonds.specs.Readable.{Readable};
+ghost use Rattle.bay_bonds.specs.Readable.{Readable};
 ghost use Rattle.bay_legal_at.specs.OnGrid.{OnGrid};
 ghost use Rattle.bay_legal_at.specs.Legal.{isPermitted, setAt};
 ghost use Rattle.bay_lists.specs.Lists.{byOffsets, offsetsShaped};

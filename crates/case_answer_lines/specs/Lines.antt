@@ -20,7 +20,7 @@ unfoldable pub spaced : List ℕ → List ℕ
 spaced [] = []
 spaced (n ∷ ns) = ((32 ∷ []) ++ numberText n) ++ spaced ns
 
--- `refused`, the number, and the values that document 01 gives beside it
+-- `refused`, the number, and the values that the rules give beside it
 unfoldable pub refusedText : Refusal → List ℕ
 unfolding spaced
 refusedText r = (refusedWord ++ numberText (r .number)) ++ spaced (valuesOf (Refused r))

@@ -26,7 +26,7 @@ pub fn put_value(out: &mut [u8], at: usize, sign: &[u8], value: usize) -> usize
     put_number(out, next, value as u64)
 }
 
-// How many values stand beside a number: those of document 01's table, and 19, which is a sheet's.
+// How many values stand beside a number: those of the rules' table, and 19, which is a sheet's.
 fn value_count(number: u32) -> usize
     ensures { λ r. ⌜ r ≡ valueCount number ⌝ }
 {

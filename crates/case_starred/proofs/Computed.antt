@@ -1,4 +1,4 @@
--- Document 01's starred cases hold of the definitions: one table, one statement. Those of sequences hold by the theorem of `utils`, the layouts by computing them.
+-- The rules' starred cases hold of the definitions: one table, one statement. Those of sequences hold by the theorem of `utils`, the layouts by computing them.
 -- Assumes nothing.
 use mathlib.Core.Path.{_≡_, refl, sym, ap, ap₂, _∙_}
 use mathlib.Core.List.{List, [], _∷_, _++_, map, map-append}

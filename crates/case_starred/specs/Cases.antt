@@ -1,4 +1,4 @@
--- Document 01's starred cases, all of them, as one table of what the definitions give and what 01 prints: sequences first, then layouts. Assumes nothing.
+-- The rules' starred cases, all of them, as one table of what the definitions give and what the rules print: sequences first, then layouts. Assumes nothing.
 use Prim.Native.Nat.{ℕ, _*_}
 use mathlib.Core.Bool.{Bool, true, false}
 use mathlib.Core.List.{List, [], _∷_, _++_, map}

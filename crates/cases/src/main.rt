@@ -1,4 +1,4 @@
-// Runs document 01's cases that are not starred, which are too large to be computed in a proof, and prints how many come out otherwise.
+// Runs the rules' cases that are not starred, which are too large to be computed in a proof, and prints how many come out otherwise.
 ghost use Prim.Native.Nat.{_≤_};
 
 mod bases;

@@ -1,4 +1,4 @@
--- Document 01's starred cases hold of the definitions, by computing them: one table, one statement. Assumes nothing.
+-- The rules' starred cases hold of the definitions, by computing them: one table, one statement. Assumes nothing.
 use mathlib.Core.Path.{_≡_, refl}
 use mathlib.Core.List.{map}
 use lib.Ieee.{ofBits, add}

@@ -1,4 +1,4 @@
--- Document 01's starred cases of sequences, as a table of what the definitions give and what 01 prints. Assumes nothing.
+-- The rules' starred cases of sequences, as a table of what the definitions give and what the rules print. Assumes nothing.
 use Prim.Native.Nat.{ℕ}
 use mathlib.Core.List.{List, [], _∷_}
 use lib.IntN.{pos, negℤ}

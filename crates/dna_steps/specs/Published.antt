@@ -1,4 +1,4 @@
--- The published values (SantaLucia and Hicks 2004, 37 °C), ten rows and the start, with minus signs turned: ΔG as document 01 gives it, ΔS as Biopython's table
+-- The published values (SantaLucia and Hicks 2004, 37 °C), ten rows and the start, with minus signs turned: ΔG as the rules give it, ΔS as Biopython's table
 -- DNA_NN4 does; and what is on record of the ported ones. Assumes nothing.
 use Prim.Native.Nat.{ℕ, _+_}
 use mathlib.Core.Path.{_≡_}

@@ -9,7 +9,7 @@ use lib.ListN.{getD}
 use Rattle.units.specs.declared.StrandGlues.{StrandGlues}
 use Rattle.bay_system.specs.declared.sizes.Sizes.{Sizes}
 use Rattle.bay_glues.specs.Tables.{gluesOf, scaffoldGlue}
-use Rattle.energy_bonds.specs.Bonds.{bondWe, bondNs, bondWithScaffold}
+use Rattle.bay_bonds.specs.Bonds.{bondWe, bondNs, bondWithScaffold}
 use Rattle.energy_bays.specs.Energies.{bayEnergy, emptyPair, edgeEnergy, isBad}
 
 -- no energy is what is not above minus infinity

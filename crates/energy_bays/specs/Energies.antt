@@ -8,7 +8,7 @@ use lib.ListN.{getD}
 use Rattle.units.specs.Decimals.{plus}
 use Rattle.bay_system.specs.declared.sizes.Sizes.{Sizes}
 use Rattle.bay_glues.specs.Tables.{gluesOf, scaffoldGlue}
-use Rattle.energy_bonds.specs.Bonds.{bondWe, bondNs, bondWithScaffold}
+use Rattle.bay_bonds.specs.Bonds.{bondWe, bondNs, bondWithScaffold}
 
 -- 0.0
 abbrev pub nothing : Float

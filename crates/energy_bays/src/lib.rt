@@ -21,7 +21,7 @@ pub fn site_beta_energy(
     }
     let own = bay_glues::strand_glues_of(strand_glues, strand);
     let glue = bay_glues::scaffold_glue_at(scaffold, bay);
-    let bond = energy_bonds::bond_with_scaffold(delta_g, entropy, z.glues, z.kelvin, glue, own);
+    let bond = bay_bonds::bond_with_scaffold(delta_g, entropy, z.glues, z.kelvin, glue, own);
     bond - bay_glues::float_or_nan(logs, strand)
 }
 
@@ -50,9 +50,9 @@ pub fn edge_beta_between(
     let a = bay_glues::strand_glues_of(strand_glues, first);
     let b = bay_glues::strand_glues_of(strand_glues, second);
     if north_south {
-        return energy_bonds::bond_ns(delta_g, entropy, z.glues, z.kelvin, a, b);
+        return bay_bonds::bond_ns(delta_g, entropy, z.glues, z.kelvin, a, b);
     }
-    energy_bonds::bond_we(delta_g, entropy, z.glues, z.kelvin, a, b)
+    bay_bonds::bond_we(delta_g, entropy, z.glues, z.kelvin, a, b)
 }
 
 // Whether a sum is no energy: a NaN or minus infinity.

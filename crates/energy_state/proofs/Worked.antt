@@ -1,4 +1,4 @@
--- Layouts worked out: the definitions compute, and say what document 01 says. Assumes nothing.
+-- Layouts worked out: the definitions compute, and say what the rules say. Assumes nothing.
 use Prim.Native.Nat.{ℕ, zero, suc, _*_, _^_}
 use mathlib.Core.Path.{_≡_, refl}
 use mathlib.Core.Bool.{Bool, true, false, cond, _||_}

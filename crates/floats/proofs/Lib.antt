@@ -6,7 +6,6 @@ pub mod Good
 pub mod Round
 pub mod Sum
 pub mod Add
-pub mod Least
 pub mod Distances
 pub mod Operations
 pub mod HalfUnit

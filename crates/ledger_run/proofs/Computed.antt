@@ -1,4 +1,4 @@
--- The definitions compute: document 01's single bays, and two bays in a line whose bond decides. Assumes nothing.
+-- The definitions compute: the rules' single bays, and two bays in a line whose bond decides. Assumes nothing.
 use mathlib.Core.Path.{_≡_, refl}
 use mathlib.Core.Bool.{true, false}
 use mathlib.Core.List.{List, [], _∷_, _++_}

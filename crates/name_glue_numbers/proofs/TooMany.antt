@@ -1,4 +1,4 @@
--- Refusal 15 as document 01 says it: the entry is new, 127 bases stand before it, and it is among those registered. Assumes nothing.
+-- Refusal 15 as the rules say it: the entry is new, 127 bases stand before it, and it is among those registered. Assumes nothing.
 use Prim.Native.Nat.{ℕ, _≤_, _<_}
 use mathlib.Core.Path.{_≡_}
 use mathlib.Core.Bool.{true}

@@ -1,4 +1,4 @@
--- Four keys over two bases, computed: the definitions run, and say what document 01 says of each kind of key. Assumes nothing.
+-- Four keys over two bases, computed: the definitions run, and say what the rules say of each kind of key. Assumes nothing.
 use Prim.Native.Nat.{ℕ}
 use mathlib.Core.Path.{_≡_, refl}
 use mathlib.Core.List.{List, [], _∷_}

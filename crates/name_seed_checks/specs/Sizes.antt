@@ -38,7 +38,7 @@ sizesRight rows cols strands n s table =
 abbrev pub textsRight : StrandNames → SeedList → Bool
 textsRight n s = namesRead (n .text) (n .offsets) (n .present) (n .numerals) && offsetsFit (length (s .text)) (s .offsets)
 
--- 1: a size is outside document 01's, or a count is wrong
+-- 1: a size is outside the rules', or a count is wrong
 abbrev pub seedsSizes : (rows cols strands : ℕ) → StrandNames → SeedList → (table : ℕ) → Verdict
 seedsSizes rows cols strands n s table = refuseIf (not (sizesRight rows cols strands n s table)) 1 []
 

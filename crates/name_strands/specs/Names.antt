@@ -38,7 +38,7 @@ unfoldable pub namesRead : (text offsets present numerals : List ℕ) → Bool
 namesRead text offsets present numerals =
     (areFlags present && offsetsFit (length text) offsets) && (nullFirst text offsets present && sameBytes numerals numeralsText)
 
--- 1: a size is outside document 01's, or a count is wrong
+-- 1: a size is outside the rules', or a count is wrong
 abbrev pub namesSizes : ℕ → StrandNames → Verdict
 namesSizes strands n = refuseIf (not (namesSized strands (n .text) (n .offsets) (n .present))) 1 []
 

@@ -12,8 +12,8 @@ use plan_bay_names::characters;
 use plan_bay_names::name_of;
 use plan_bay_names::tile_at;
 use plan_bay_names::widest_bay;
+use text_fronts::least;
 use text_put::chosen;
-use text_put::least;
 use text_put::put_text;
 
 // The grid of a layout.

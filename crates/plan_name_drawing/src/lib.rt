@@ -7,8 +7,8 @@ ghost use Rattle.plan_name_drawing.specs.Escaped.{escapedByte, escaped};
 ghost use Rattle.plan_name_drawing.specs.Letters.{letterSize, line, twoLines, label};
 use plan_bay_names::characters;
 use plan_bay_names::front;
+use text_fronts::least;
 use text_put::chosen;
-use text_put::least;
 use text_put::put_form;
 use text_put::put_text;
 

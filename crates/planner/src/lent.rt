@@ -2,9 +2,9 @@
 // tested system has, the call is refused with 1.
 use bay_legal::allowed_tiles;
 use bay_lists::ConstraintKind;
-use bay_marks::mark_bays;
-use bay_marks::rule_strands;
 use bay_system::Sizes;
+use plan_marks::mark_bays;
+use plan_marks::rule_strands;
 use run_choice_price::mfe_with_choice;
 use sdc2d_thermo::mfe_configuration;
 use units::Check;

@@ -41,7 +41,7 @@ pub(crate) fn put_with(line: &mut [u8], at: usize, text: &[u8], number: usize) -
     put_number(line, next, number as u64)
 }
 
-// A row and a column, from 1, and the bay as document 01 counts it.
+// A row and a column, from 1, and the bay as the rules count it.
 pub(crate) fn put_bay(line: &mut [u8], at: usize, bay: usize, cols: usize) -> usize {
     let row = put_with(line, at, b"row ", row_of(bay, cols));
     let column = put_with(line, row, b", column ", column_of(bay, cols));

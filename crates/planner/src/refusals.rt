@@ -1,4 +1,4 @@
-// The refusals of document 01 as sentences: the number, the place as people count it, and what to mend.
+// The refusals of the rules as sentences: the number, the place as people count it, and what to mend.
 use crate::messages::after;
 use crate::messages::begin;
 use crate::messages::finish;

@@ -6,7 +6,7 @@ use text_fronts::first_bytes;
 use text_put::put_float;
 use text_put::put_text;
 
-// Two digits for each strand without a name, as document 01's numerals text has them.
+// Two digits for each strand without a name, as the rules' numerals text has them.
 pub(crate) const NUMERALS: [u8; 126] =
     *b"000102030405060708091011121314151617181920212223242526272829303132333435363738394041424344454647484950515253545556575859606162";
 

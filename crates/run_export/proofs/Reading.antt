@@ -1,4 +1,4 @@
--- The number in an answer's numbers is the one that document 01's reading of the answer gives, and what the contract asks by the kind of constraints. Assumes nothing.
+-- The number in an answer's numbers is the one that the rules' reading of the answer gives, and what the contract asks by the kind of constraints. Assumes nothing.
 use Prim.Native.Nat.{ℕ}
 use mathlib.Core.Path.{_≡_, refl, _∙_, ap}
 use mathlib.Core.List.{List}

@@ -1,4 +1,4 @@
--- The scan of a run in the system's own words: its strands are those that may lie there, and what a strand adds is document 01's number. Assumes nothing.
+-- The scan of a run in the system's own words: its strands are those that may lie there, and what a strand adds is the rules' number. Assumes nothing.
 use Prim.Native.Nat.{ℕ, _+_, _*_, _/_, _%_, _≤_, _<_}
 use mathlib.Core.Path.{_≡_, sym, _∙_, ap, ap₂, subst}
 use mathlib.Core.Bool.{Bool, true, cond, not, _&&_}

@@ -10,7 +10,7 @@ use Rattle.units.specs.Answers.{energyAnswer}
 use Rattle.units.specs.Refusals.{Verdict, _▷_, ifPasses}
 use Rattle.bay_system.specs.declared.sizes.Sizes.{Sizes}
 use Rattle.bay_system.specs.System.{System, bays}
-use Rattle.energy_bonds.specs.Readable.{Readable}
+use Rattle.bay_bonds.specs.Readable.{Readable}
 use Rattle.energy_state.specs.StateG.{energyVerdict, inKcal}
 use Rattle.bay_legal.specs.Sets.{setsTo, emptyVerdict}
 use Rattle.ledger_rows.specs.Blocks.{energyTable, noteTable}

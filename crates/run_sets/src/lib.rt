@@ -3,7 +3,7 @@ ghost use mathlib.Core.List.{[]};
 ghost use Prim.Native.Nat.{_*_, _≤_};
 ghost use lib.ListN.{length};
 ghost use Rattle.bay_system.specs.System.{system};
-ghost use Rattle.energy_bonds.specs.Readable.{Readable};
+ghost use Rattle.bay_bonds.specs.Readable.{Readable};
 ghost use Rattle.ledger_rows.specs.Scan.{EachHasStrand};
 ghost use Rattle.ledger_fill.specs.Handed.{setScan};
 ghost use Rattle.run_scan_tables.specs.Order.{scanSets};

@@ -2,7 +2,7 @@
 ghost use Prim.Native.Nat.{_*_, _≤_};
 ghost use lib.ListN.{length, take};
 ghost use Rattle.units.specs.Limits.{mostStrands};
-ghost use Rattle.energy_bonds.specs.Readable.{Readable};
+ghost use Rattle.bay_bonds.specs.Readable.{Readable};
 ghost use Rattle.bay_scan_order.specs.Scan.{window};
 ghost use Rattle.run_tables.specs.Tables.{siteTable, ReadableBays};
 ghost use Rattle.ledger_fill.specs.Handed.{runScan, Roomy};

@@ -3,7 +3,7 @@ ghost use mathlib.Core.Path.{_≡_};
 ghost use Prim.Native.Nat.{_*_};
 ghost use lib.ListN.{length};
 ghost use Rattle.units.specs.Limits.{mostStrands};
-ghost use Rattle.energy_bonds.specs.Readable.{Readable};
+ghost use Rattle.bay_bonds.specs.Readable.{Readable};
 ghost use Rattle.run_tables.specs.Tables.{pairEnergy, bondTable};
 use bay_system::Sizes;
 use energy_bays::edge_beta_between;

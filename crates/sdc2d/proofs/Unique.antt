@@ -4,14 +4,14 @@ use Rattle.bay_glues.proofs.strand_glues_of.Kinds as glues-kinds
 use Rattle.bay_glues.proofs.strand_glues_of.Reads as glues
 use Rattle.bay_glues.proofs.scaffold_glue_at.Kinds as bay-kinds
 use Rattle.bay_glues.proofs.scaffold_glue_at.Reads as bay
-use Rattle.energy_bonds.proofs.glue_glue_dg.Kinds as dg-kinds
-use Rattle.energy_bonds.proofs.glue_glue_dg.Reads as dg
-use Rattle.energy_bonds.proofs.bond_we.Kinds as we-kinds
-use Rattle.energy_bonds.proofs.bond_we.Reads as we
-use Rattle.energy_bonds.proofs.bond_ns.Kinds as ns-kinds
-use Rattle.energy_bonds.proofs.bond_ns.Reads as ns
-use Rattle.energy_bonds.proofs.bond_with_scaffold.Kinds as scaffold-kinds
-use Rattle.energy_bonds.proofs.bond_with_scaffold.Reads as scaffold
+use Rattle.bay_bonds.proofs.glue_glue_dg.Kinds as dg-kinds
+use Rattle.bay_bonds.proofs.glue_glue_dg.Reads as dg
+use Rattle.bay_bonds.proofs.bond_we.Kinds as we-kinds
+use Rattle.bay_bonds.proofs.bond_we.Reads as we
+use Rattle.bay_bonds.proofs.bond_ns.Kinds as ns-kinds
+use Rattle.bay_bonds.proofs.bond_ns.Reads as ns
+use Rattle.bay_bonds.proofs.bond_with_scaffold.Kinds as scaffold-kinds
+use Rattle.bay_bonds.proofs.bond_with_scaffold.Reads as scaffold
 use Rattle.bay_binding.proofs.friends_btm.Kinds as friends-kinds
 use Rattle.bay_binding.proofs.friends_btm.Reads as friends
 

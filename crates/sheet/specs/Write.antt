@@ -1,6 +1,5 @@
 -- What writing a constraint sheet answers and writes. Assumes nothing.
 use Prim.Native.Nat.{ℕ}
-use mathlib.Core.Bool.{true}
 use mathlib.Core.List.{List}
 use lib.ListN.{length}
 use Rattle.units.specs.Refusals.{Verdict, ifPasses, _▷_}

@@ -5,10 +5,10 @@
 // the other, or as much of their front as has room.
 ghost use mathlib.Core.Path.{_≡_};
 ghost use mathlib.Core.Bool.{cond};
-ghost use Prim.Native.Nat.{min};
 ghost use lib.IntN.{natAbs};
 ghost use Rattle.text_put.specs.Puts.{Put, numberText, signedText, floatText};
 ghost use Rattle.text_put.specs.Forms.{filledByte, filled};
+use text_fronts::least;
 
 // Puts the bytes of `text`.
 pub fn put_text(out: &mut [u8], at: usize, text: &[u8]) -> usize
@@ -102,11 +102,4 @@ pub fn chosen<'a>(test: bool, one: &'a [u8], other: &'a [u8]) -> &'a [u8]
     ensures { λ r. ⌜ now r ≡ cond test (now (one .entry)) (now (other .entry)) ⌝ }
 {
     if test { one } else { other }
-}
-
-// The smaller of two numbers.
-pub fn least(a: usize, b: usize) -> usize
-    ensures { λ r. ⌜ r ≡ min a b ⌝ }
-{
-    if a < b { a } else { b }
 }

@@ -1,4 +1,4 @@
--- Refusals as document 01 prints them, a number and its values, and the order in which tests refuse. Assumes nothing.
+-- Refusals as the rules print them, a number and its values, and the order in which tests refuse. Assumes nothing.
 use Prim.Native.Nat.{ℕ}
 use mathlib.Core.Path.{_≡_}
 use mathlib.Core.Bool.{Bool, true, false, cond}
@@ -48,7 +48,7 @@ abbrev pub ifPasses : {A : Type 0} → Verdict → (new old : A) → A
 ifPasses passes new old = new
 ifPasses (refuses number values) new old = old
 
--- the rows of document 01's table that have values beside their number, and how many; 19 is a sheet's (docs/requests/Q-1.md)
+-- the rows of the rules' table that have values beside their number, and how many; 19 is a sheet's (docs/requests/Q-1.md)
 abbrev pub valueRows : List (ℕ × ℕ)
 valueRows =
     (2, 1)
@@ -70,7 +70,7 @@ abbrev pub countIn : List (ℕ × ℕ) → ℕ → ℕ
 countIn [] number = 0
 countIn (row ∷ rows) number = cond (eqb number (row .0)) (row .1) (countIn rows number)
 
--- how many values stand beside a number in document 01's table
+-- how many values stand beside a number in the rules' table
 abbrev pub valueCount : ℕ → ℕ
 valueCount number = countIn valueRows number
 

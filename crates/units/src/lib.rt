@@ -66,7 +66,7 @@ pub struct StrandGlues {
     pub glues: [u32; 5],
 }
 
-// A refusal of document 01's table: its number and its values in their order; an unused value is 0.
+// A refusal of the rules' table: its number and its values in their order; an unused value is 0.
 pub struct Refusal {
     pub number: u32,
     pub first: usize,

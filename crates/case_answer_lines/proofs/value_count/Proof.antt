@@ -1,4 +1,4 @@
--- `case_answer_lines::value_count` meets its contract: the table has document 01's counts. Assumes nothing.
+-- `case_answer_lines::value_count` meets its contract: the table has the rules' counts. Assumes nothing.
 use borrow.Author.Needs.{needs}
 use Rattle.case_answer_lines.proofs.Refusing.{count-at, count-past}
 use Rattle.case_answer_lines.proofs.value_count.Statement.{statement}

@@ -1,6 +1,5 @@
 -- `put_sheet` meets its contract: the invariant is that what is left of the sheet ends it. Assumes nothing.
 use Prim.Native.Nat.{_*_}
-use mathlib.Core.Bool.{true}
 use native.Mathlib.Omega.{arith}
 use Rattle.bay_lists.specs.Lists.{lists}
 use Rattle.sheet_text.proofs.Parts.{row-within}

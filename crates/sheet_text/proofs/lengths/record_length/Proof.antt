@@ -1,6 +1,5 @@
 -- `lengths::record_length` meets its contract: the invariant is that what is left of the record is still to be added. Assumes nothing.
 use Prim.Native.Nat.{ℕ, _-_}
-use mathlib.Core.Bool.{true}
 use mathlib.Core.List.{List}
 use mathlib.Core.Path.{ap, _∙_}
 use native.Mathlib.Omega.{arith}

@@ -1,6 +1,5 @@
 -- `lengths::sheet_length` meets its contract: the invariant is that what is left of the sheet is still to be added. Assumes nothing.
 use Prim.Native.Nat.{_*_}
-use mathlib.Core.Bool.{true}
 use native.Mathlib.Omega.{arith}
 use Rattle.bay_lists.specs.Lists.{lists}
 use Rattle.sheet_text.proofs.Parts.{row-within}
