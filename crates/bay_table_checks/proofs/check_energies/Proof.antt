@@ -1,6 +1,6 @@
 -- `bay_table_checks::check_energies` meets its contract: ΔG, then ΔS, then the logarithms. Assumes nothing.
 use Prim.Native.Nat.{_+_, _-_}
-use mathlib.Core.Path.{_≡_}
+use mathlib.Core.Path.{_≡_, _∙_, ap}
 use lib.ListN.{length, take, drop, length-drop}
 use lib.Seq.{take-all}
 use native.Mathlib.Omega.{arith}
@@ -11,7 +11,7 @@ use borrow.Author.Needs.{needs}
 use Rattle.units.proofs.Verdicts.{refused-first, passed-first}
 use Rattle.units.specs.Finite.{finite}
 use Rattle.units.specs.Places.{placeVerdict}
-use Rattle.units.specs.Refusals.{Verdict, _▷_}
+use Rattle.units.specs.Refusals.{Verdict, _▷_, check}
 use Rattle.bay_table_checks.specs.Tables.{isLog, energiesVerdict}
 use Rattle.bay_table_checks.proofs.check_energies.Statement.{statement}
 use Rattle.bay_table_checks.proofs.check_energies.Tie as tie
@@ -92,7 +92,8 @@ returns-3 c =
     let second = told .before .before in
     let start = second .before .before .before .before .before .before .before in
     rw (one-passed (second .before), passed-first (entropies start) (logarithms start) (second .check-floats2 .ensures) (told .enum-told2 .given .1))
-    (rw (whole-rest (now (start .args .logs))) at (c .check-floats3 .ensures))
+    (c .check-floats3 .ensures
+    ∙ ap (λ (l : List Float). check (placeVerdict 3 (length (now (start .args .delta-g)) + length (now (start .args .entropy)) + 1) isLog l)) (whole-rest (now (start .args .logs))))
 
 pub check-energies-spec : {M : Type 1} → statement M
 check-energies-spec =
