@@ -1,7 +1,7 @@
 #!/usr/bin/env python3
 """Writes the case file for the energies of layouts to standard output, the same bytes each time.
 
-    oracle/cases/energy.py                      the cases of crates/answers_energy/stdin
+    oracle/cases/energy.py                      the cases of crates/answers/data/energy.cases
     oracle/cases/energy.py --large N --seed S   N cases of all kinds at random, for comparisons by hand
 
 How many cases each kind has goes to standard error.

@@ -1,7 +1,7 @@
 #!/usr/bin/env python3
 """Writes the case file for energy keys to standard output, the same bytes each time.
 
-    oracle/cases/keys.py                      the cases of crates/answers_keys/stdin
+    oracle/cases/keys.py                      the cases of crates/answers/data/keys.cases
     oracle/cases/keys.py --large N --seed S   N cases of all kinds at random, for comparisons by hand
 
 How many cases each kind has goes to standard error. What is drawn stands in names.py, since a system's names and the keys

@@ -1,7 +1,7 @@
 #!/usr/bin/env python3
 """Writes the case file for least-energy runs to standard output, the same bytes each time.
 
-    oracle/cases/layouts.py                      the cases of crates/answers_layouts/stdin
+    oracle/cases/layouts.py                      the cases of crates/answers/data/layouts.cases
     oracle/cases/layouts.py --large N --seed S   N cases of all kinds at random, for comparisons by hand
 
 How many cases each kind has goes to standard error.

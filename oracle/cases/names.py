@@ -1,7 +1,7 @@
 #!/usr/bin/env python3
 """Writes the case file for names to standard output, the same bytes each time.
 
-    oracle/cases/names.py                      the cases of crates/answers_names/stdin
+    oracle/cases/names.py                      the cases of crates/answers/data/names.cases
     oracle/cases/names.py --large N --seed S   N cases of all kinds at random, for comparisons by hand
 
 How many cases each kind has goes to standard error. The cases at the rules' limits are in names_limits.py. Energy keys are drawn

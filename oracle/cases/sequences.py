@@ -1,7 +1,7 @@
 #!/usr/bin/env python3
 """Writes the case file for sequences to standard output, the same bytes each time.
 
-    oracle/cases/sequences.py                      the cases of crates/answers_sequences/stdin
+    oracle/cases/sequences.py                      the cases of crates/answers/data/sequences.cases
     oracle/cases/sequences.py --large N --seed S   N cases of all kinds at random, for comparisons by hand
 
 How many cases each kind has goes to standard error.

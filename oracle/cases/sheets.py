@@ -1,7 +1,7 @@
 #!/usr/bin/env python3
 """Writes the case file for constraint sheets to standard output, the same bytes each time.
 
-    oracle/cases/sheets.py                      the cases of crates/answers_sheets/stdin
+    oracle/cases/sheets.py                      the cases of crates/answers/data/sheets.cases
     oracle/cases/sheets.py --large N --seed S   N cases of all kinds at random, for comparisons by hand
 
 How many cases each kind has goes to standard error.

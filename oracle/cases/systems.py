@@ -1,7 +1,7 @@
 #!/usr/bin/env python3
 """Writes the case file for systems to standard output, the same bytes each time.
 
-    oracle/cases/systems.py                      the cases of crates/answers_systems/stdin
+    oracle/cases/systems.py                      the cases of crates/answers/data/systems.cases
     oracle/cases/systems.py --large N --seed S   N cases of all kinds at random, for comparisons by hand
 
 How many cases each kind has goes to standard error.

@@ -2,7 +2,7 @@
 use crate::messages::begin;
 use crate::messages::finish;
 use crate::messages::say;
-use crate::standard::NUMERALS;
+use name_strands::NUMERALS;
 use plan_layout_svg::put_svg;
 use text_fronts::first_bytes;
 use text_put::put_text;

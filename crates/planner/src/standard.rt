@@ -1,14 +1,11 @@
 // Standard output, and the texts that several reports share.
 use crate::messages::say;
+use name_strands::NUMERALS;
 use plan_bay_names::name_of;
 use text_energy::put_energy;
 use text_fronts::first_bytes;
 use text_put::put_float;
 use text_put::put_text;
-
-// Two digits for each strand without a name, as the rules' numerals text has them.
-pub(crate) const NUMERALS: [u8; 126] =
-    *b"000102030405060708091011121314151617181920212223242526272829303132333435363738394041424344454647484950515253545556575859606162";
 
 // Writes the front of a text to standard output.
 pub(crate) fn write_front(folder: &[u8], text: &[u8], end: usize) -> bool {
