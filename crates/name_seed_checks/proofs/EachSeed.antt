@@ -1,11 +1,11 @@
 -- What the tests of the seeds tell where they pass, and that each refusal has the values of its row. Assumes nothing.
-use Prim.Native.Nat.{ℕ, _<_}
+use Prim.Native.Nat.{ℕ, _≤_, _<_}
 use mathlib.Core.Path.{_≡_, refl}
-use mathlib.Core.Bool.{not, _&&_}
+use mathlib.Core.Bool.{true, false, not, _&&_}
 use mathlib.Core.List.{[], _∷_}
 use lib.Dec.{ltb}
-use borrow.Author.Tests.{ltb-true}
-use Rattle.units.specs.Refusals.{passes}
+use borrow.Author.Tests.{lt-ltb, le-ltb, ltb-true}
+use Rattle.units.specs.Refusals.{passes, refuses}
 use Rattle.units.proofs.Tests.{both}
 use Rattle.units.proofs.Verdicts.{first-passes, rest-passes, Tabled, tabled-if, tabled-then}
 use Rattle.text_entries.proofs.Tested.{no-fault-found}
@@ -22,6 +22,20 @@ pub record Placed (rows cols : ℕ) (n : StrandNames) (s : SeedList) (k : ℕ) :
   pub strand : seedStrand n (seedName s k) < tileCount n
 
 module _ (rows cols : ℕ) (n : StrandNames) (s : SeedList) where
+  -- what the tests of seed k come to
+  module _ (k : ℕ) where
+    pub off-grid : not (ltb (seedRow s k) rows && ltb (seedCol s k) cols) ≡ true → seedVerdict rows cols n s k ≡ refuses 4 (k ∷ [])
+    unfolding seedVerdict
+    off-grid e = rw e
+
+    pub name-unknown : not (ltb (seedRow s k) rows && ltb (seedCol s k) cols) ≡ false → tileCount n ≤ seedStrand n (seedName s k) → seedVerdict rows cols n s k ≡ refuses 18 (k ∷ [])
+    unfolding seedVerdict
+    name-unknown e u = rw (e, le-ltb (seedStrand n (seedName s k)) (tileCount n) u)
+
+    pub seed-passes : not (ltb (seedRow s k) rows && ltb (seedCol s k) cols) ≡ false → seedStrand n (seedName s k) < tileCount n → seedVerdict rows cols n s k ≡ passes
+    unfolding seedVerdict
+    seed-passes e l = rw (e, lt-ltb (seedStrand n (seedName s k)) (tileCount n) l)
+
   placed : (k : ℕ) → seedVerdict rows cols n s k ≡ passes → Placed rows cols n s k
   unfolding seedVerdict
   placed k e =

@@ -8,7 +8,7 @@ ghost use Rattle.text_entries.specs.Entries.{entryOf, offsetsFit};
 ghost use Rattle.name_strands.specs.Names.{strandNames, StrandsReadable};
 ghost use Rattle.name_seed_checks.specs.Sizes.{seedList, seedCount, seedsSized, SeedsReadable};
 ghost use Rattle.name_seed_checks.specs.Strands.{seedStrand};
-ghost use Rattle.name_seed_checks.specs.Each.{seedVerdict, eachSeed};
+ghost use Rattle.name_seed_checks.specs.Each.{eachSeed};
 use name_shown::shows;
 use text_entries::entry;
 use units::Check;
@@ -71,36 +71,7 @@ pub fn seed_strand(
     )
 }
 
-// Whether seed k lies on the grid and is named as a tile is: 4, then 18, each with the seed's place in the list.
-fn check_seed(
-    rows: usize,
-    cols: usize,
-    text: &[u8],
-    offsets: &[usize],
-    present: &[u8],
-    numerals: &[u8],
-    places: &[usize],
-    seed_text: &[u8],
-    seed_offsets: &[usize],
-    k: usize,
-) -> Check
-    requires { ⌜ StrandsReadable (strandNames (now text) (now offsets) (now present) (now numerals)) ⌝ }
-    requires { ⌜ SeedsReadable (seedList (now places) (now «seed_text») (now «seed_offsets»)) ⌝ }
-    requires { ⌜ k < seedCount (seedList (now places) (now «seed_text») (now «seed_offsets»)) ⌝ }
-    ensures { λ r. let n = strandNames (now (text .entry)) (now (offsets .entry)) (now (present .entry)) (now (numerals .entry)) in
-        let s = seedList (now (places .entry)) (now («seed_text» .entry)) (now («seed_offsets» .entry)) in
-        ⌜ r ≡ check (seedVerdict rows cols n s k) ⌝ }
-{
-    if !((places[2 * k] < rows) & (places[2 * k + 1] < cols)) {
-        return refused_with(4, k);
-    }
-    if present.len() <= seed_strand(text, offsets, present, numerals, seed_text, seed_offsets, k) {
-        return refused_with(18, k);
-    }
-    Check::Passed
-}
-
-// Each seed in list order.
+// Whether each seed lies on the grid and is named as a tile is, in list order: 4, then 18, each with the seed's place in the list.
 pub fn check_seeds(
     rows: usize,
     cols: usize,
@@ -120,20 +91,13 @@ pub fn check_seeds(
 {
     let mut k = 0;
     while k < places.len() / 2 {
-        match check_seed(
-            rows,
-            cols,
-            text,
-            offsets,
-            present,
-            numerals,
-            places,
-            seed_text,
-            seed_offsets,
-            k,
-        ) {
-            Check::Refused(r) => return Check::Refused(r),
-            Check::Passed => (),
+        if !((places[2 * k] < rows) & (places[2 * k + 1] < cols)) {
+            return refused_with(4, k);
+        }
+        if present.len()
+            <= seed_strand(text, offsets, present, numerals, seed_text, seed_offsets, k)
+        {
+            return refused_with(18, k);
         }
         k += 1;
     }
