@@ -6,7 +6,7 @@ ghost use lib.ListN.{length};
 ghost use Rattle.units.specs.Refusals.{check};
 ghost use Rattle.text_entries.specs.Entries.{entryOf, offsetsFit};
 ghost use Rattle.name_strands.specs.Names.{strandNames, StrandsReadable};
-ghost use Rattle.name_seed_checks.specs.Sizes.{seedList, seedCount, seedsSized, SeedsReadable};
+ghost use Rattle.name_seed_checks.specs.Sizes.{seedList, seedsSized, SeedsReadable};
 ghost use Rattle.name_seed_checks.specs.Strands.{seedStrand};
 ghost use Rattle.name_seed_checks.specs.Each.{eachSeed};
 use name_shown::shows;
