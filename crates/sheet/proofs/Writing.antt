@@ -80,27 +80,27 @@ module _ (rows columns : ℕ) (offsets tiles old : List ℕ) where
   abbrev need : ℕ
   need = bytesNeeded rows columns offsets tiles
 
-  abbrev lists : Verdict
-  lists = listsVerdict rows columns offsets tiles
+  abbrev tests : Verdict
+  tests = listsVerdict rows columns offsets tiles
 
   abbrev room : Verdict
   room = bytesVerdict (length old) need
 
-  chain : writeVerdict rows columns offsets tiles old ≡ lists ▷ room
+  chain : writeVerdict rows columns offsets tiles old ≡ tests ▷ room
   chain = regroup (gridVerdict rows columns) (offsetsVerdict rows columns offsets tiles) room
 
   answered : {r : CountAnswer} {new : List ℕ} → r ≡ writeAnswer rows columns offsets tiles old → new ≡ textAfter rows columns offsets tiles old → Answers rows columns offsets tiles old r new
   answered e n = let p = given (a-count need) (writeVerdict rows columns offsets tiles old) (write-tabled rows columns offsets tiles old) e in (p .0, (p .1, n))
 
-  pub lists-refuse : {x : Check} {r : Refusal} → x ≡ check lists → x ≡ Refused r → Answers rows columns offsets tiles old (Count·Refused r) old
+  pub lists-refuse : {x : Check} {r : Refusal} → x ≡ check tests → x ≡ Refused r → Answers rows columns offsets tiles old (Count·Refused r) old
   lists-refuse e f =
-      let all = refused-first lists room e f ∙ ap check (sym chain) in
+      let all = refused-first tests room e f ∙ ap check (sym chain) in
       answered (refused (a-count need) (writeVerdict rows columns offsets tiles old) all refl)
       (refused-keeps (writeVerdict rows columns offsets tiles old) (front (sheetBytes rows columns offsets tiles) old) old all refl)
 
-  pub lists-pass : {x : Check} → x ≡ check lists → x ≡ Passed → {r : CountAnswer} {new : List ℕ} → TextFilled need (sheetBytes rows columns offsets tiles) old r new
+  pub lists-pass : {x : Check} → x ≡ check tests → x ≡ Passed → {r : CountAnswer} {new : List ℕ} → TextFilled need (sheetBytes rows columns offsets tiles) old r new
       → Answers rows columns offsets tiles old r new
   lists-pass e f w =
-      let past : writeVerdict rows columns offsets tiles old ≡ room = chain ∙ ap (λ (v : Verdict). v ▷ room) (passed lists e f) in
+      let past : writeVerdict rows columns offsets tiles old ≡ room = chain ∙ ap (λ (v : Verdict). v ▷ room) (passed tests e f) in
       answered (w .answers ∙ ap (λ (v : Verdict). countAnswer v need) (sym past))
       (w .holds ∙ ap (λ (v : Verdict). ifPasses v (front (sheetBytes rows columns offsets tiles) old) old) (sym past))

@@ -8,6 +8,7 @@ ghost use Rattle.bay_lists.specs.Lists.{offsetsShaped, lists};
 ghost use Rattle.sheet.specs.Write.{sheetBytes, bytesNeeded, writeVerdict, writeAnswer, textAfter};
 ghost use Rattle.sheet.specs.Room.{listsVerdict, TextFilled};
 use crate::grid::check_grid;
+use bay_lists::ConstraintKind;
 use bay_lists::offsets_shaped;
 use sheet_text::put_sheet;
 use sheet_text::sheet_length;
@@ -41,7 +42,7 @@ fn check_lists(rows: usize, columns: usize, offsets: &[usize], tiles: &[u32]) ->
         Check::Refused(r) => return Check::Refused(r),
         Check::Passed => (),
     }
-    if offsets_shaped(rows * columns, true, offsets, tiles) {
+    if offsets_shaped(rows * columns, ConstraintKind::Lists, offsets, tiles) {
         return Check::Passed;
     }
     units::refused(5)

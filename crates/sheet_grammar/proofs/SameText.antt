@@ -109,24 +109,24 @@ module _ (rows columns : ℕ) (text offsets tiles : List ℕ) (read : readVerdic
       ▷ refuseIf (not (eqb (length offsets) (rows * columns + 1))) 5 []
       ▷ refuseIf (ltb (length tiles) (tileCount rows columns text)) 9 (tileCount rows columns text ∷ [])
 
-  abbrev lists : List (List ℕ)
-  lists = sheetLists rows columns text
+  abbrev ours : List (List ℕ)
+  ours = sheetLists rows columns text
 
-  module _ (same : sheetBytes rows columns (starts 0 lists) (allTiles lists) ≡ text) (short : length text < 2 ^ 63) (lent : List ℕ) (room : length text ≤ length lent) where
-    need-is : bytesNeeded rows columns (starts 0 lists) (allTiles lists) ≡ length text
+  module _ (same : sheetBytes rows columns (starts 0 ours) (allTiles ours) ≡ text) (short : length text < 2 ^ 63) (lent : List ℕ) (room : length text ≤ length lent) where
+    need-is : bytesNeeded rows columns (starts 0 ours) (allTiles ours) ≡ length text
     need-is = ap (λ (l : List ℕ). min (length l) (2 ^ 64 - 1)) same ∙ omega arith
 
-    writing-passes : writeVerdict rows columns (starts 0 lists) (allTiles lists) lent ≡ passes
+    writing-passes : writeVerdict rows columns (starts 0 ours) (allTiles ours) lent ≡ passes
     writing-passes =
         let grid : gridVerdict rows columns ≡ passes = first-passes (gridVerdict rows columns) later read in
-        let need = bytesNeeded rows columns (starts 0 lists) (allTiles lists) in
+        let need = bytesNeeded rows columns (starts 0 ours) (allTiles ours) in
         let has-room : need ≤ length lent = omega (arith, need-is) in
         rw (grid, sheet-is-shaped rows columns text, le-ltb (length lent) need has-room)
 
     abbrev writing : (o t : List ℕ) → Type 0
     writing o t = (writeAnswer rows columns o t lent ≡ Count (length text)) × (textAfter rows columns o t lent ≡ front text lent)
 
-    written-again : writing (starts 0 lists) (allTiles lists)
+    written-again : writing (starts 0 ours) (allTiles ours)
     written-again = (
       ap₂ countAnswer writing-passes need-is,
       ap₂ (λ (v : Verdict) (l : List ℕ). ifPasses v (front l lent) lent) writing-passes same,
@@ -142,6 +142,6 @@ pub text-comes-back : {columns rows : ℕ} {text : List ℕ} {cs ls : List (List
     → readAnswer rows columns text offsets tiles ≡ Count count → (lent : List ℕ) → length text < 2 ^ 63 → length text ≤ length lent → ComesBack rows columns text offsets tiles count lent
 text-comes-back {columns = columns} {rows = rows} {text = text} {ls = ls} s offsets tiles count e lent short room =
     let r = counted (readVerdict rows columns text offsets tiles) (tileCount rows columns text) count e in
-    let read-as : ls ≡ sheetLists rows columns text = sym (complete (written-is-sheet s) .lists) in
+    let read-as : ls ≡ sheetLists rows columns text = sym (complete (written-is-sheet s) .ours) in
     let same = subst (λ (l : List (List ℕ)). sheetBytes rows columns (starts 0 l) (allTiles l) ≡ text) read-as (same-text s) in
     subst (λ (n : ℕ). ComesBack rows columns text offsets tiles n lent) (r .1) (comes-back rows columns text offsets tiles (r .0) same short lent room)
