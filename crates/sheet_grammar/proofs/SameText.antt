@@ -142,6 +142,6 @@ pub text-comes-back : {columns rows : ℕ} {text : List ℕ} {cs ls : List (List
     → readAnswer rows columns text offsets tiles ≡ Count count → (lent : List ℕ) → length text < 2 ^ 63 → length text ≤ length lent → ComesBack rows columns text offsets tiles count lent
 text-comes-back {columns = columns} {rows = rows} {text = text} {ls = ls} s offsets tiles count e lent short room =
     let r = counted (readVerdict rows columns text offsets tiles) (tileCount rows columns text) count e in
-    let read-as : ls ≡ sheetLists rows columns text = sym (complete (written-is-sheet s) .ours) in
+    let read-as : ls ≡ sheetLists rows columns text = sym (complete (written-is-sheet s) .lists) in
     let same = subst (λ (l : List (List ℕ)). sheetBytes rows columns (starts 0 l) (allTiles l) ≡ text) read-as (same-text s) in
     subst (λ (n : ℕ). ComesBack rows columns text offsets tiles n lent) (r .1) (comes-back rows columns text offsets tiles (r .0) same short lent room)
