@@ -1,7 +1,7 @@
 #!/usr/bin/env python3
 """Draws the rooms of the house and their arrows: docs/rooms.py > docs/rooms.svg, at the top of the project.
 
-A room is the first word of its crates' names, but for those in PLACES. It stands above every room that it uses; an
+A room is the first word of its crates' names; the ground floor, the doors and the programs have boxes of their own. It stands above every room that it uses; an
 arrow goes from a room to one that uses it, left out where a longer way leads there too. The picture comes from
 crates.txt alone. Two rooms that use each other are a fault of the house, and the script says so.
 """
@@ -11,15 +11,15 @@ from html import escape
 KIT = {"check", "io", "os", "libc", "bytes"}
 PLACES = {
     "floats": "shared", "sets": "shared", "units": "shared",
-    "utils": "dna", "sdc_common": "name", "sdc2d": "bay", "sdc2d_thermo": "run",
-    "planner": "plan", "answers": "case", "cases": "case",
+    "utils": "doors", "sdc_common": "doors", "sdc2d": "doors", "sdc2d_thermo": "doors",
+    "planner": "planner", "answers": "answers",
 }
-# what is written into a room's box: the crates that a caller names
-DOORS = {
-    "shared": "units, floats, sets", "dna": "utils", "name": "sdc_common", "bay": "sdc2d", "run": "sdc2d_thermo",
-    "plan": "planner", "case": "answers",
+# what is written into a box in place of how many crates it holds
+SAID = {
+    "shared": "units, floats, sets", "doors": "utils, sdc_common, sdc2d, sdc2d_thermo",
+    "planner": "program", "answers": "program",
 }
-WIDTH, HEIGHT, ACROSS, DOWN = 150, 52, 186, 112
+WIDTH, HEIGHT, ACROSS, DOWN = 190, 48, 222, 92
 
 
 def room(crate):
@@ -92,10 +92,10 @@ def draw(counts, uses):
         out.append(f'<path d="M{x1:g} {y1:g} C{x1:g} {y1 - 30:g} {x2:g} {y2 + 34:g} {x2:g} {y2 + 3:g}" '
                    'fill="none" stroke="#456" stroke-width="1.4" marker-end="url(#tip)"/>')
     for name, (x, y) in sorted(place.items()):
-        crates = f"{counts[name]} crates" + (f": {DOORS[name]}" if name in DOORS else "")
+        crates = SAID.get(name, f"{counts[name]} crates")
         out.append(f'<rect x="{x:g}" y="{y:g}" width="{WIDTH}" height="{HEIGHT}" rx="6" fill="#eef3f7" stroke="#456"/>')
         out.append(f'<text x="{x + WIDTH / 2:g}" y="{y + 22:g}" text-anchor="middle" font-size="16">{escape(name)}</text>')
-        out.append(f'<text x="{x + WIDTH / 2:g}" y="{y + 40:g}" text-anchor="middle" font-size="11" fill="#456">{escape(crates)}</text>')
+        out.append(f'<text x="{x + WIDTH / 2:g}" y="{y + 40:g}" text-anchor="middle" font-size="10" fill="#456">{escape(crates)}</text>')
     return "\n".join(out + ["</svg>"]) + "\n"
 
 

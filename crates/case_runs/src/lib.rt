@@ -39,6 +39,7 @@ fn run_asked(
     energies: &mut [f64],
     leaving: &mut [u8],
 ) -> EnergyAnswer {
+    let kind = lists.kind;
     mfe_configuration(
         z,
         strand_glues,
@@ -47,7 +48,7 @@ fn run_asked(
         entropy,
         logs,
         seeds,
-        lists.kind,
+        kind,
         offsets,
         tiles,
         layout,

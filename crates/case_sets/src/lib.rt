@@ -41,6 +41,7 @@ fn sets_asked(
     if !readable {
         return unreadable(out);
     }
+    let kind = lists.kind;
     let answer = allowed_tiles(
         z,
         strand_glues,
@@ -49,7 +50,7 @@ fn sets_asked(
         entropy,
         logs,
         seeds,
-        lists.kind,
+        kind,
         offsets,
         tiles,
         sets,

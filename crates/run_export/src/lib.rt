@@ -95,7 +95,7 @@ pub extern "C" fn run_export_mfe_configuration(
         glues,
         kelvin,
     };
-    numbers(sdc2d_thermo::mfe_configuration(
+    numbers(run_mfe::mfe_configuration(
         z,
         strand_glues,
         scaffold,
