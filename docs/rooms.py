@@ -10,16 +10,16 @@ from html import escape
 
 KIT = {"check", "io", "os", "libc", "bytes"}
 PLACES = {
-    "floats": "shared", "sets": "shared", "units": "shared",
+    "floats": "ground floor", "sets": "ground floor", "units": "ground floor",
     "utils": "doors", "sdc_common": "doors", "sdc2d": "doors", "sdc2d_thermo": "doors",
     "planner": "planner", "answers": "answers",
 }
 # what is written into a box in place of how many crates it holds
 SAID = {
-    "shared": "units, floats, sets", "doors": "utils, sdc_common, sdc2d, sdc2d_thermo",
+    "ground floor": "units, floats, sets", "doors": "utils, sdc_common, sdc2d, sdc2d_thermo",
     "planner": "program", "answers": "program",
 }
-WIDTH, HEIGHT, ACROSS, DOWN = 190, 48, 222, 92
+WIDTH, HEIGHT, ACROSS, DOWN = 224, 48, 240, 92
 
 
 def room(crate):
@@ -70,32 +70,68 @@ def arrows(uses):
     )
 
 
-def draw(counts, uses):
-    high = heights(uses)
+def laid(high, pairs):
+    """Rows of boxes and of bends, from the ground up, and the ways of the arrows: a bend stands in each row that a long arrow
+    passes. A few sweeps put what belongs together below one another."""
     rows = [sorted(name for name in high if high[name] == k) for k in range(max(high.values()) + 1)]
+    ways = []
+    for below, above in pairs:
+        way = [below] + [(below, above, k) for k in range(high[below] + 1, high[above])] + [above]
+        for bend in way[1:-1]:
+            rows[bend[2]].append(bend)
+        ways.append(way)
+    near = {}
+    for way in ways:
+        for one, other in zip(way, way[1:]):
+            near.setdefault(one, []).append(other)
+            near.setdefault(other, []).append(one)
+    middle = {}
+
+    def place(row):
+        for i, item in enumerate(row):
+            middle[item] = i - (len(row) - 1) / 2
+
+    for row in rows:
+        place(row)
+    for _ in range(8):
+        for row in rows:
+            row.sort(key=lambda item: (sum(middle[other] for other in near[item]) / len(near[item]), str(item)))
+            place(row)
+    return rows, ways, middle
+
+
+def draw(counts, uses):
+    rows, ways, middle = laid(heights(uses), arrows(uses))
     wide = max(len(row) for row in rows)
     total = (wide * ACROSS + 20, len(rows) * DOWN)
-    place = {}
-    for k, row in enumerate(rows):
-        left = (total[0] - len(row) * ACROSS) / 2 + (ACROSS - WIDTH) / 2
-        for i, name in enumerate(row):
-            place[name] = (left + i * ACROSS, total[1] - (k + 1) * DOWN + (DOWN - HEIGHT) / 2)
+
+    def point(item):
+        row = next(k for k, items in enumerate(rows) if item in items)
+        return total[0] / 2 + middle[item] * ACROSS, total[1] - (row + 0.5) * DOWN
+
     out = [
         f'<svg xmlns="http://www.w3.org/2000/svg" viewBox="0 0 {total[0]} {total[1]}" font-family="sans-serif">',
         '<defs><marker id="tip" viewBox="0 0 8 8" refX="8" refY="4" markerWidth="7" markerHeight="7" orient="auto">'
         '<path d="M0 0 8 4 0 8z" fill="#456"/></marker></defs>',
         f'<rect width="{total[0]}" height="{total[1]}" fill="#fff"/>',
     ]
-    for below, above in arrows(uses):
-        x1, y1 = place[below][0] + WIDTH / 2, place[below][1]
-        x2, y2 = place[above][0] + WIDTH / 2, place[above][1] + HEIGHT
-        out.append(f'<path d="M{x1:g} {y1:g} C{x1:g} {y1 - 30:g} {x2:g} {y2 + 34:g} {x2:g} {y2 + 3:g}" '
-                   'fill="none" stroke="#456" stroke-width="1.4" marker-end="url(#tip)"/>')
-    for name, (x, y) in sorted(place.items()):
-        crates = SAID.get(name, f"{counts[name]} crates")
-        out.append(f'<rect x="{x:g}" y="{y:g}" width="{WIDTH}" height="{HEIGHT}" rx="6" fill="#eef3f7" stroke="#456"/>')
-        out.append(f'<text x="{x + WIDTH / 2:g}" y="{y + 22:g}" text-anchor="middle" font-size="16">{escape(name)}</text>')
-        out.append(f'<text x="{x + WIDTH / 2:g}" y="{y + 40:g}" text-anchor="middle" font-size="10" fill="#456">{escape(crates)}</text>')
+    for way in ways:
+        x, y = point(way[0])
+        line = f"M{x:g} {y - HEIGHT / 2:g}"
+        y -= HEIGHT / 2
+        for item in way[1:]:
+            nx, ny = point(item)
+            ny += HEIGHT / 2 + 3 if item == way[-1] else 0
+            line += f" C{x:g} {y - 26:g} {nx:g} {ny + 26:g} {nx:g} {ny:g}"
+            x, y = nx, ny
+        out.append(f'<path d="{line}" fill="none" stroke="#456" stroke-width="1.4" marker-end="url(#tip)"/>')
+    for name in sorted(counts):
+        x, y = point(name)
+        said = SAID.get(name, f"{counts[name]} crates")
+        out.append(f'<rect x="{x - WIDTH / 2:g}" y="{y - HEIGHT / 2:g}" width="{WIDTH}" height="{HEIGHT}" rx="6" '
+                   'fill="#eef3f7" stroke="#456"/>')
+        out.append(f'<text x="{x:g}" y="{y - 3:g}" text-anchor="middle" font-size="16">{escape(name)}</text>')
+        out.append(f'<text x="{x:g}" y="{y + 15:g}" text-anchor="middle" font-size="10" fill="#456">{escape(said)}</text>')
     return "\n".join(out + ["</svg>"]) + "\n"
 
 
