@@ -12,12 +12,12 @@ KIT = {"check", "io", "os", "libc", "bytes"}
 PLACES = {
     "floats": "ground floor", "sets": "ground floor", "units": "ground floor",
     "utils": "doors", "sdc_common": "doors", "sdc2d": "doors", "sdc2d_thermo": "doors",
-    "planner": "planner", "answers": "answers",
+    "planner": "planner", "answers": "answers", "cases": "cases",
 }
 # what is written into a box in place of how many crates it holds
 SAID = {
     "ground floor": "units, floats, sets", "doors": "utils, sdc_common, sdc2d, sdc2d_thermo",
-    "planner": "program", "answers": "program",
+    "planner": "program", "answers": "program", "cases": "program",
 }
 WIDTH, HEIGHT, ACROSS, DOWN = 224, 48, 240, 92
 
