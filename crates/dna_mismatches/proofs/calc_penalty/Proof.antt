@@ -25,22 +25,22 @@ index-requires-3 : tie.Need-index-requires-3
 index-requires-3 c κs = search needs
 
 mul-result : tie.Need-mul-result
-mul-result c = omega (arith, index-lt (c .before .before .before .args .prior))
+mul-result c = let a = c .before .before .before .args in omega (arith, index-lt (a .prior), index-lt (a .x), index-lt (a .y))
 
 mul-result-2 : tie.Need-mul-result-2
-mul-result-2 c = omega (arith, index-lt (c .before .before .before .args .x))
+mul-result-2 c = let a = c .before .before .before .args in omega (arith, index-lt (a .prior), index-lt (a .x), index-lt (a .y))
 
 mul-result-3 : tie.Need-mul-result-3
-mul-result-3 c = omega (arith, index-lt (c .before .before .before .args .y))
+mul-result-3 c = let a = c .before .before .before .args in omega (arith, index-lt (a .prior), index-lt (a .x), index-lt (a .y))
 
 index-1-result : tie.Need-index-1-result
-index-1-result c = omega (arith, index-lt (c .before .before .before .args .prior))
+index-1-result c = let a = c .before .before .before .args in omega (arith, index-lt (a .prior), index-lt (a .x), index-lt (a .y))
 
 index-2-result : tie.Need-index-2-result
-index-2-result c = omega (arith, index-lt (c .before .before .before .args .x))
+index-2-result c = let a = c .before .before .before .args in omega (arith, index-lt (a .prior), index-lt (a .x), index-lt (a .y))
 
 index-3-result : tie.Need-index-3-result
-index-3-result c = omega (arith, index-lt (c .before .before .before .args .y))
+index-3-result c = let a = c .before .before .before .args in omega (arith, index-lt (a .prior), index-lt (a .x), index-lt (a .y))
 
 -- the cell of the floats is the cell of the printed hundredths, rounded once, whatever stands for a missing row
 abbrev Right : (d : List (List Float)) (e : List Float) (p x y : DnaNucleotideBase) → Type 0
