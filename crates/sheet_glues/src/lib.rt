@@ -1,10 +1,10 @@
 // From a strands' sheet and a scaffold's sheet to glue numbers: the names of both are laid one after the other and registered.
 ghost use Prim.Native.Nat.{_+_, _-_, _*_, _≤_, _<_};
 ghost use lib.ListN.{length, take, set};
-ghost use Rattle.name_glues.specs.Names.{glueNames as names};
+ghost use Rattle.name_glues.specs.Names.{glueNames};
 ghost use Rattle.sheet_names.specs.Appended.{Appended};
 ghost use Rattle.sheet_names.specs.FrontFilled.{noEntries, FrontFilled};
-ghost use Rattle.sheet_glues.specs.SheetGlues.{glueNames, bytesLaid, laidNames, Registers};
+ghost use Rattle.sheet_glues.specs.SheetGlues.{sheetGlues, bytesLaid, laidNames, Registers};
 use name_registering::register;
 use sheet_names::Entries;
 use sheet_names::put_columns;
@@ -31,11 +31,11 @@ pub fn register_sheets(
     requires { ⌜ (strands - 1) * 5 + rows * cols < length (now offsets) ⌝ }
     requires { ⌜ (strands - 1) * 5 + rows * cols ≤ length (now present) ⌝ }
     ensures names { λ _.
-        let glues = glueNames rows cols strands (now («strand_sheet» .entry)) (now («scaffold_sheet» .entry)) in
+        let glues = sheetGlues rows cols strands (now («strand_sheet» .entry)) (now («scaffold_sheet» .entry)) in
         ⌜ FrontFilled (now (text .entry)) (now (offsets .entry)) (now (present .entry)) 0 glues
         (bytesLaid (length (now (text .entry))) glues) (now (text .exit)) (now (offsets .exit)) (now (present .exit)) ⌝ }
     ensures glues { λ r.
-        let glues = glueNames rows cols strands (now («strand_sheet» .entry)) (now («scaffold_sheet» .entry)) in
+        let glues = sheetGlues rows cols strands (now («strand_sheet» .entry)) (now («scaffold_sheet» .entry)) in
         ⌜ Registers rows cols strands (laidNames (length (now (text .entry))) glues)
         r (now («strand_glues» .entry)) (now (scaffold .entry)) (now (bases .entry))
         (now («strand_glues» .exit)) (now (scaffold .exit)) (now (bases .exit)) ⌝ }
@@ -80,7 +80,7 @@ fn put_glues(
     requires { ⌜ (strands - 1) * 5 + rows * cols ≤ length (now present) ⌝ }
     ensures { λ r.
         ⌜ Appended (now (text .entry)) (set (now (offsets .entry)) 0 0) (now (present .entry)) (noEntries 0)
-        (glueNames rows cols strands (now (own .entry)) (now (grid .entry)))
+        (sheetGlues rows cols strands (now (own .entry)) (now (grid .entry)))
         r (now (text .exit)) (now (offsets .exit)) (now (present .exit)) ⌝ }
 {
     offsets[0] = 0;
@@ -110,7 +110,7 @@ fn register_fronts(
     ensures { λ r.
         let text' = take (all .bytes) (now (text .entry)) in
         let offsets' = take (all .entries + 1) (now (offsets .entry)) in
-        ⌜ Registers rows cols strands (names text' offsets' (take (all .entries) (now (present .entry))))
+        ⌜ Registers rows cols strands (glueNames text' offsets' (take (all .entries) (now (present .entry))))
         r (now («strand_glues» .entry)) (now (scaffold .entry)) (now (bases .entry))
         (now («strand_glues» .exit)) (now (scaffold .exit)) (now (bases .exit)) ⌝ }
 {
