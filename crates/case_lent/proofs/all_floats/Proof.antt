@@ -1,43 +1,50 @@
--- `case_lent::all_floats` reads no further than the table. Assumes nothing.
+-- `case_lent::all_floats` meets its contract: what is left of the table decides. Assumes nothing.
 use Prim.Native.Nat.{_-_}
+use mathlib.Core.Bool.{Bool}
+use mathlib.Core.Path.{_≡_, refl, sym, _∙_}
 use native.Mathlib.Omega.{arith}
-use lib.ListN.{length}
 use borrow.Author.Needs.{needs}
+use borrow.Author.Tests.{not-true, not-false}
+use lib.Ieee.{Float, nan}
+use lib.ListN.{length}
+use Rattle.case_lent.specs.Kept.{allFrom, sameFloat}
+use Rattle.case_lent.proofs.Keeping.{goes-on, stops, ends}
 use Rattle.case_lent.proofs.all_floats.Statement.{statement}
 use Rattle.case_lent.proofs.all_floats.Tie as tie
 
 abbrev Inv-loop : tie.InvT-loop
-Inv-loop table from value i₀ i = Unit {0}
+Inv-loop table from value i₀ i = allFrom (λ x. sameFloat x value) from table ≡ allFrom (λ x. sameFloat x value) i table
 
 abbrev μ-loop : tie.MeasureT-loop
 μ-loop table from value i₀ i = length table - i
 
-loop-holds : tie.Need-loop-holds Inv-loop μ-loop
-loop-holds c = search needs
-
-mul-same-float : tie.Need-mul-same-float Inv-loop μ-loop
-mul-same-float c = omega arith
-
-shared-slice-read-same-float : tie.Need-shared-slice-read-same-float Inv-loop μ-loop
-shared-slice-read-same-float c = omega arith
+abbrev test : Float → Float → Bool
+test value x = sameFloat x value
 
 same-float-requires : tie.Need-same-float-requires Inv-loop μ-loop
 same-float-requires c κs = search needs
 
 returns : tie.Need-returns Inv-loop μ-loop
-returns c = search needs
-
-add-i : tie.Need-add-i Inv-loop μ-loop
-add-i c = omega arith
-
-loop-less : tie.Need-loop-less Inv-loop μ-loop
-loop-less c = omega arith
+returns c =
+    let tested = c .before in
+    let turn = tested .before .before in
+    let loop = turn .before in
+    let a = loop .before .before .args in
+    stops (test (a .value)) (a .table .now) (a .from) (loop .loop .i) (loop .loop .inv) nan (turn .loop-test .taken) (sym (tested .same-float .ensures) ∙ not-true _ (c .if1 .taken))
 
 loop-again : tie.Need-loop-again Inv-loop μ-loop
-loop-again c = search needs
+loop-again c =
+    let tested = c .before in
+    let turn = tested .before .before in
+    let loop = turn .before in
+    let a = loop .before .before .args in
+    goes-on (test (a .value)) (a .table .now) (a .from) (loop .loop .i) (loop .loop .inv) nan (turn .loop-test .taken) (sym (tested .same-float .ensures) ∙ not-false _ (c .if1 .left))
 
 returns-2 : tie.Need-returns-2 Inv-loop μ-loop
-returns-2 c = search needs
+returns-2 c =
+    let loop = c .before in
+    let a = loop .before .before .args in
+    ends (test (a .value)) (a .table .now) (a .from) (loop .loop .i) (loop .loop .inv) (c .loop-test .left)
 
 pub all-floats-spec : {M : Type 1} → statement M
 all-floats-spec =
@@ -45,12 +52,12 @@ all-floats-spec =
     (tie.spec
     Inv-loop
     μ-loop
-    loop-holds
-    mul-same-float
-    shared-slice-read-same-float
+    (λ c. refl)
+    (λ c. omega arith)
+    (λ c. omega arith)
     same-float-requires
     returns
-    add-i
-    loop-less
+    (λ c. omega arith)
+    (λ c. omega arith)
     loop-again
     returns-2)
