@@ -1,4 +1,6 @@
 // The call on energy keys: fields are read, the library is asked with matrices of sevens, and the answer is put down.
+ghost use Prim.Native.Nat.{_≤_};
+ghost use lib.ListN.{length};
 use crate::matrices::put_matrices;
 use crate::reading::ListsRead;
 use crate::reading::NumbersRead;
@@ -28,7 +30,9 @@ fn keys_into(
     delta_g: &mut [f64],
     entropy: &mut [f64],
     out: &mut [u8],
-) -> usize {
+) -> usize
+    ensures { λ r. ⌜ r ≤ length (now (out .entry)) ⌝ }
+{
     let answer = energy_keys(
         bytes_from(bytes, 0, texts.text),
         numbers_from(numbers, 0, lists.offsets),
@@ -66,7 +70,9 @@ fn keys_lent(
     delta_g: &mut [f64],
     entropy: &mut [f64],
     out: &mut [u8],
-) -> usize {
+) -> usize
+    ensures { λ r. ⌜ r ≤ length (now (out .entry)) ⌝ }
+{
     let side = cells(asked.side);
     let g = at_most(side, delta_g.len());
     let s = at_most(side, entropy.len());
@@ -94,7 +100,9 @@ fn keys_read(
     delta_g: &mut [f64; 66049],
     entropy: &mut [f64; 66049],
     out: &mut [u8],
-) -> usize {
+) -> usize
+    ensures { λ r. ⌜ r ≤ length (now (out .entry)) ⌝ }
+{
     let mut bytes = [0u8; 32928];
     let texts = read_texts(line, &mut bytes);
     let mut numbers = [0usize; 492];
@@ -124,7 +132,9 @@ fn keys_read(
 }
 
 // The answer to a case.
-pub(crate) fn answer_keys(line: &[u8], out: &mut [u8]) -> usize {
+pub(crate) fn answer_keys(line: &[u8], out: &mut [u8]) -> usize
+    ensures { λ r. ⌜ r ≤ length (now (out .entry)) ⌝ }
+{
     let mut delta_g = [7.0; 66049];
     let mut entropy = [7.0; 66049];
     keys_read(line, &mut delta_g, &mut entropy, out)

@@ -2,6 +2,10 @@
 // answer is put down.
 mod register;
 
+ghost use mathlib.Core.Path.{_≡_};
+ghost use Rattle.case_text.specs.Fields.{callName};
+ghost use Rattle.case_replies.specs.Replies.{isKnown};
+ghost use Rattle.case_names.specs.Calls.{knows};
 use case_answer_lines::put_text;
 use case_answer_lines::unreadable;
 use case_answer_lists::put_coded;
@@ -32,7 +36,9 @@ fn answer_base(line: &[u8], out: &mut [u8]) -> usize {
 }
 
 // The answer to a line, put into `out` from its start.
-pub fn answer(line: &[u8], out: &mut [u8]) -> Reply {
+pub fn answer(line: &[u8], out: &mut [u8]) -> Reply
+    ensures { λ r. ⌜ isKnown r ≡ knows (callName (now (line .entry))) ⌝ }
+{
     let call = call_name(line);
     if same(call, b"self_and_inverse") {
         return Reply::To(answer_base(line, out));

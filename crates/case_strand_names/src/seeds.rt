@@ -1,4 +1,6 @@
 // The call `seeds_by_name`: seeds are read from their line, a table of sevens is lent, and what became of it is told.
+ghost use Prim.Native.Nat.{_≤_};
+ghost use lib.ListN.{length};
 use crate::names::NamesRead;
 use crate::names::read_names;
 use case_answer_lines::refused_with_tables;
@@ -63,7 +65,9 @@ fn read_numbers(line: &[u8], places: usize) -> Asked {
     }
 }
 
-fn put_seeds(out: &mut [u8], answer: Check, kept: bool, seeds: &[u32]) -> usize {
+fn put_seeds(out: &mut [u8], answer: Check, kept: bool, seeds: &[u32]) -> usize
+    ensures { λ r. ⌜ r ≤ length (now (out .entry)) ⌝ }
+{
     match answer {
         Check::Refused(r) => refused_with_tables(out, r, kept),
         Check::Passed => put_small_numbers(out, 0, b"seeds ", seeds),
@@ -79,7 +83,9 @@ fn seeds_asked(
     numbers: &[usize],
     seeds: &mut [u32],
     out: &mut [u8],
-) -> usize {
+) -> usize
+    ensures { λ r. ⌜ r ≤ length (now (out .entry)) ⌝ }
+{
     let answer = seeds_by_name(
         asked.rows,
         asked.cols,
@@ -104,7 +110,9 @@ fn seeds_lent(
     bytes: &[u8],
     numbers: &[usize],
     out: &mut [u8],
-) -> usize {
+) -> usize
+    ensures { λ r. ⌜ r ≤ length (now (out .entry)) ⌝ }
+{
     let mut seeds = [7u32; 128];
     let n = at_most(asked.length, 128);
     seeds_asked(asked, names, given, bytes, numbers, &mut seeds[0..n], out)
@@ -116,7 +124,9 @@ fn all_read(asked: Asked, names: NamesRead, given: SeedsRead) -> bool {
 }
 
 // The answer to a case.
-pub(crate) fn answer_seeds(line: &[u8], out: &mut [u8]) -> usize {
+pub(crate) fn answer_seeds(line: &[u8], out: &mut [u8]) -> usize
+    ensures { λ r. ⌜ r ≤ length (now (out .entry)) ⌝ }
+{
     let mut bytes = [0u8; 33136];
     let mut numbers = [0usize; 208];
     let names = read_names(line, &mut bytes, &mut numbers);

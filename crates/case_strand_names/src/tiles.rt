@@ -1,4 +1,6 @@
 // The call `tile_name`: the name that is shown for a tile.
+ghost use Prim.Native.Nat.{_≤_};
+ghost use lib.ListN.{length};
 use crate::names::NamesRead;
 use crate::names::read_names;
 use case_answer_lines::put_value;
@@ -23,7 +25,9 @@ fn put_tile<'a>(
     numerals: &'a [u8],
     tile: u32,
     out: &mut [u8],
-) -> usize {
+) -> usize
+    ensures { λ r. ⌜ r ≤ length (now (out .entry)) ⌝ }
+{
     match tile_name_refusal(strands, text, offsets, present, numerals, tile) {
         NumberAnswer::Refused(number) => put_value(out, 0, b"refused ", number as usize),
         NumberAnswer::Shown => {
@@ -62,7 +66,9 @@ fn tile_asked(
     bytes: &[u8],
     numbers: &[usize],
     out: &mut [u8],
-) -> usize {
+) -> usize
+    ensures { λ r. ⌜ r ≤ length (now (out .entry)) ⌝ }
+{
     if names.readable && asked.readable {
         return put_tile(
             asked.strands,
@@ -78,7 +84,9 @@ fn tile_asked(
 }
 
 // The answer to a case.
-pub(crate) fn answer_tile(line: &[u8], out: &mut [u8]) -> usize {
+pub(crate) fn answer_tile(line: &[u8], out: &mut [u8]) -> usize
+    ensures { λ r. ⌜ r ≤ length (now (out .entry)) ⌝ }
+{
     let mut bytes = [0u8; 33136];
     let mut numbers = [0usize; 80];
     let names = read_names(line, &mut bytes, &mut numbers);

@@ -1,5 +1,9 @@
 // Answers the calls on systems of a case file (docs/CASES.md): a system is read from its line once, and what is asked of it goes to the
 // library of its call.
+ghost use mathlib.Core.Path.{_≡_};
+ghost use Rattle.case_text.specs.Fields.{callName};
+ghost use Rattle.case_replies.specs.Replies.{isKnown};
+ghost use Rattle.case_system_calls.specs.Calls.{knows};
 use bay_system::Sizes;
 use case_answer_lines::unreadable;
 use case_bonds::answer_bonds;
@@ -14,11 +18,13 @@ use case_text::first_small_numbers;
 use case_text::same;
 
 // Whether a call is on a system.
-fn is_known(call: &[u8]) -> bool {
+fn is_known(call: &[u8]) -> bool
+    ensures { λ r. ⌜ r ≡ knows (now (call .entry)) ⌝ }
+{
     same(call, b"allowed_tiles")
-        || same(call, b"bonds")
-        || same(call, b"state_g")
-        || same(call, b"mfe_configuration")
+        | same(call, b"bonds")
+        | same(call, b"state_g")
+        | same(call, b"mfe_configuration")
 }
 
 // The call is asked, if the whole system could be read.
@@ -131,7 +137,9 @@ fn answer_system(line: &[u8], out: &mut [u8]) -> usize {
 }
 
 // The answer to a line, put into `out` from its start.
-pub fn answer(line: &[u8], out: &mut [u8]) -> Reply {
+pub fn answer(line: &[u8], out: &mut [u8]) -> Reply
+    ensures { λ r. ⌜ isKnown r ≡ knows (callName (now (line .entry))) ⌝ }
+{
     if is_known(call_name(line)) {
         return Reply::To(answer_system(line, out));
     }

@@ -1,5 +1,5 @@
 -- `case_keys::matrices::put_matrices` goes through the cells once. Assumes nothing.
-use Prim.Native.Nat.{_-_}
+use Prim.Native.Nat.{_-_, _≤_}
 use mathlib.Core.Path.{_≡_}
 use native.Mathlib.Omega.{arith}
 use lib.ListN.{length}
@@ -8,7 +8,7 @@ use Rattle.case_keys.proofs.matrices.put_matrices.Statement.{statement}
 use Rattle.case_keys.proofs.matrices.put_matrices.Tie as tie
 
 abbrev Inv-loop : tie.InvT-loop
-Inv-loop out₀ side delta-g entropy next₀ i₀ j₀ k₀ out next i j k = length out ≡ length out₀
+Inv-loop out₀ side delta-g entropy next₀ i₀ j₀ k₀ out next i j k = (length out ≡ length out₀) × (next ≤ length out₀)
 
 abbrev μ-loop : tie.MeasureT-loop
 μ-loop out₀ side delta-g entropy next₀ i₀ j₀ k₀ out next i j k = length delta-g - k
@@ -26,7 +26,7 @@ same-length : tie.Need-same-length Inv-loop μ-loop
 same-length c = search needs
 
 returns : tie.Need-returns Inv-loop μ-loop
-returns c = tt
+returns c = search needs
 
 mul-put-cell : tie.Need-mul-put-cell Inv-loop μ-loop
 mul-put-cell c = omega arith
@@ -62,7 +62,7 @@ same-length-2 : tie.Need-same-length-2 Inv-loop μ-loop
 same-length-2 c = search needs
 
 returns-2 : tie.Need-returns-2 Inv-loop μ-loop
-returns-2 c = tt
+returns-2 c = search needs
 
 pub put-matrices-spec : {M : Type 1} → statement M
 put-matrices-spec =
