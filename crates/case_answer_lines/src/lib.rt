@@ -1,4 +1,4 @@
-// The writer of answer lines that the `answers_*` programs share: a refusal with its values, a word with a number or with floats.
+// The writer of answer lines that the libraries of cases share: a refusal with its values, a word with a number or with floats.
 // docs/CASES.md says what they look like; `text_put` says how a text is put.
 ghost use mathlib.Core.Path.{_≡_};
 ghost use mathlib.Core.List.{_++_};

@@ -9,6 +9,7 @@ use case_parts::text_between;
 use case_parts::three_read;
 use case_text::field;
 use case_text::has_field;
+use name_strands::NUMERALS;
 
 // Whether the names could be read, and how long each part is.
 pub(crate) struct NamesRead {
@@ -24,10 +25,7 @@ fn numerals_into(line: &[u8], room: &mut [u8]) -> usize {
     if has_field(line, b"numerals") {
         return counted(text_into(field(line, b"numerals"), room));
     }
-    counted(text_into(
-        b"000102030405060708091011121314151617181920212223242526272829303132333435363738394041424344454647484950515253545556575859606162",
-        room,
-    ))
+    counted(text_into(&NUMERALS, room))
 }
 
 // The same, to the places of a table between two.

@@ -1,4 +1,4 @@
-// The reader of case files that the `answers_*` programs share. docs/CASES.md says what they look like.
+// The reader of case files that the program `answers` and its libraries share. docs/CASES.md says what they look like.
 //
 // Every function takes what it is lent, whatever it is: none has a `requires`. Values are read in
 // place, so a name, a field or an item is a part of the line that it stands in. All take time
