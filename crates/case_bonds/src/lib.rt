@@ -2,7 +2,9 @@
 ghost use Prim.Native.Nat.{_<_};
 ghost use lib.ListN.{length};
 ghost use Rattle.bay_bonds.specs.Readable.{Readable};
-ghost use Rattle.case_bonds.specs.Asked.{Bonded};
+ghost use Rattle.units.specs.Refusals.{check};
+ghost use Rattle.bay_system.specs.System.{system, systemVerdict};
+ghost use Rattle.case_bonds.specs.Asked.{Bonded, Told};
 use bay_system::Sizes;
 use case_answer_lines::put_text;
 use case_answer_lines::refused;
@@ -160,7 +162,10 @@ pub fn answer_bonds(
     logs: &[f64],
     seeds: &[u32],
     out: &mut [u8],
-) -> usize {
+) -> usize
+    ensures { λ r. let s = system z (now («strand_glues» .entry)) (now (scaffold .entry)) (now («delta_g» .entry)) (now (entropy .entry)) (now (logs .entry)) (now (seeds .entry)) in
+        ⌜ Told (check (systemVerdict s)) (now (out .entry)) r (now (out .exit)) ⌝ }
+{
     match check_system(z, strand_glues, scaffold, delta_g, entropy, logs, seeds) {
         Check::Refused(r) => refused(out, r),
         Check::Passed => put_bonds(z, strand_glues, scaffold, delta_g, entropy, out),

@@ -1,4 +1,10 @@
 // Answers the call `allowed_tiles` of a case file (docs/CASES.md) on a system that was read: the library is asked with a table of sevens.
+ghost use Prim.Native.Nat.{_≤_};
+ghost use lib.ListN.{length};
+ghost use Rattle.text_put.specs.Puts.{Put};
+ghost use Rattle.bay_system.specs.System.{system};
+ghost use Rattle.bay_lists.specs.Lists.{constraints};
+ghost use Rattle.case_sets.specs.Answer.{setsText, askedText};
 use bay_system::Sizes;
 use case_answer_lines::refused_with_tables;
 use case_answer_lines::unreadable;
@@ -15,7 +21,9 @@ use sdc2d_thermo::allowed_tiles;
 use units::Check;
 
 // The sets, or a refusal with what became of the lent table.
-fn put_sets(out: &mut [u8], answer: Check, kept: bool, sets: &[u64]) -> usize {
+fn put_sets(out: &mut [u8], answer: Check, kept: bool, sets: &[u64]) -> usize
+    ensures { λ r. ⌜ Put (now (out .entry)) 0 (setsText answer kept (now (sets .entry))) r (now (out .exit)) ⌝ }
+{
     match answer {
         Check::Refused(r) => refused_with_tables(out, r, kept),
         Check::Passed => put_long_numbers(out, 0, b"sets ", sets),
@@ -37,7 +45,11 @@ fn sets_asked(
     tiles: &[u32],
     sets: &mut [u64],
     out: &mut [u8],
-) -> usize {
+) -> usize
+    ensures { λ r. let s = system z (now («strand_glues» .entry)) (now (scaffold .entry)) (now («delta_g» .entry)) (now (entropy .entry)) (now (logs .entry)) (now (seeds .entry)) in
+        let c = constraints (lists .kind) (now (offsets .entry)) (now (tiles .entry)) in
+        ⌜ Put (now (out .entry)) 0 (askedText readable s c (now (sets .entry))) r (now (out .exit)) ⌝ }
+{
     if !readable {
         return unreadable(out);
     }
@@ -74,7 +86,9 @@ pub fn answer_sets(
     logs: &[f64],
     seeds: &[u32],
     out: &mut [u8],
-) -> usize {
+) -> usize
+    ensures { λ r. ⌜ r ≤ length (now (out .entry)) ⌝ }
+{
     let mut offsets = [0usize; 1025];
     let mut tiles = [0u32; 2977];
     let lists = read_constraints(line, &mut offsets, &mut tiles);

@@ -1,9 +1,10 @@
 -- `case_bonds::answer_bonds` asks for the bonds of a system that passed its tests. Assumes nothing.
 use denote.Ref.{now}
+use mathlib.Core.Path.{sym, _∙_}
 use Rattle.units.proofs.Verdicts.{passed}
 use Rattle.bay_system.specs.System.{system, systemVerdict}
 use Rattle.bay_system.proofs.Fine.{fine}
-use Rattle.case_bonds.proofs.Fit.{bonded}
+use Rattle.case_bonds.proofs.Fit.{bonded, refused-told}
 use borrow.Author.Needs.{needs}
 use Rattle.case_bonds.proofs.answer_bonds.Statement.{statement}
 use Rattle.case_bonds.proofs.answer_bonds.Tie as tie
@@ -32,13 +33,18 @@ same-length : tie.Need-same-length
 same-length c = search needs
 
 returns : tie.Need-returns
-returns c = search needs
+returns c =
+    let put = c .before .before in
+    let known = put .before .before .before in
+    refused-told _ _ (known .before .before .check-system .ensures .1) _ (known .r .given .1) (put .refused .ensures)
 
 same-length-2 : tie.Need-same-length-2
 same-length-2 c = search needs
 
 returns-2 : tie.Need-returns-2
-returns-2 c = search needs
+returns-2 c =
+    let told = c .before .before .before .before in
+    rw (sym (told .before .before .check-system .ensures .1) ∙ told .enum-told .given .1) tt
 
 pub answer-bonds-spec : {M : Type 1} → statement M
 answer-bonds-spec =
