@@ -1,7 +1,7 @@
 -- A list that could be read stands at the front of the table that it was read into. Assumes nothing.
 use Prim.Native.Nat.{ℕ, suc, _^_, _≤_}
 use mathlib.Core.Bool.{Bool, true, false, cond, not, _&&_}
-use mathlib.Core.List.{List, [], _∷_, _++_}
+use mathlib.Core.List.{List, [], _∷_}
 use mathlib.Core.Path.{_≡_, refl, sym, ap, _∙_}
 use native.Mathlib.Omega.{arith}
 use borrow.Author.Tests.{leb-true}
