@@ -1,5 +1,7 @@
 // The flat tables of a system, read: the five glues of a strand, the glue of a bay, a cell of the two matrices. Every reader is total: what a
 // table does not hold is glue 0, or a NaN.
+#![tactic(auto)]
+
 ghost use Rattle.std.specs.Prelude.{◌≡◌, ◌+◌, ◌*◌, ◌<◌, leb, get_or};
 ghost use Rattle.std.specs.Float.{nan};
 ghost use Rattle.bay_glues.specs.Tables.{glue_on, glues_of, scaffold_glue, cell_of};

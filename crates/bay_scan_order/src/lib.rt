@@ -1,4 +1,6 @@
 // The order in which bays are scanned.
+#![tactic(auto)]
+
 ghost use Rattle.std.specs.Prelude.{◌≡◌, ◌*◌, ◌≤◌, ◌<◌};
 ghost use Rattle.units.specs.Limits.{most_side};
 ghost use Rattle.bay_scan_order.specs.Scan.{bay_at, number_at};

@@ -1,4 +1,6 @@
 // What is refused of a system's tables: 2 and 3, with the first place.
+#![tactic(auto)]
+
 ghost use Rattle.std.specs.Prelude.{◌≡◌, [], ◌∷◌, ◌+◌, ◌*◌, ◌≤◌, ◌<◌, ◌^◌, ltb, length};
 ghost use Rattle.units.specs.Limits.{most_strands, most_glues};
 ghost use Rattle.units.specs.Places.{first_failing, place_verdict};

@@ -1,4 +1,6 @@
 // Letters and the bases that they stand for: which bytes are letters, which base binds which, and the tests of a sequence's letters and length.
+#![tactic(auto)]
+
 ghost use Rattle.std.specs.Prelude.{◌≡◌};
 ghost use Rattle.units.specs.Refusals.{check};
 ghost use Rattle.dna_letters.specs.Bases.{base_of, connects_to, index_of, good_match};

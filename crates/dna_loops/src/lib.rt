@@ -1,4 +1,6 @@
 // What a closed internal loop adds, by its length.
+#![tactic(auto)]
+
 ghost use Rattle.std.specs.Prelude.{◌≡◌, ◌≤◌};
 ghost use Rattle.dna_loops.specs.Loops.{up_to, loop_penalty};
 

@@ -1,4 +1,5 @@
 // The test for a bad energy, and the running choice of a least one. Their laws are in proofs/.
+#![tactic(auto)]
 
 ghost use Rattle.std.specs.Prelude.{◌≡◌, true, not};
 ghost use Rattle.std.specs.Float.{inf};

@@ -1,4 +1,5 @@
 // The step of the ledger's running choice. The ledger itself, over any strands and any numbers, and its theorem are in specs/.
+#![tactic(auto)]
 
 ghost use Rattle.std.specs.Prelude.{◌≡◌};
 ghost use Rattle.ledger_rows.specs.Blocks.{lower};

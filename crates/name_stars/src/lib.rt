@@ -1,4 +1,6 @@
 // A glue's name: its base, which is the name without its trailing stars, and the stars.
+#![tactic(auto)]
+
 ghost use Rattle.std.specs.Prelude.{◌≡◌, ◌≤◌, length};
 ghost use Rattle.name_stars.specs.Stars.{base_length, base_of, star_count, is_from};
 

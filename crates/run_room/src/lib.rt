@@ -1,4 +1,6 @@
 // Whether a ledger of this need may be made, and fits what is lent.
+#![tactic(auto)]
+
 ghost use Rattle.std.specs.Prelude.{◌≡◌, ◌||◌, ltb};
 ghost use Rattle.units.specs.Refusals.{check};
 ghost use Rattle.run_room.specs.Room.{room_verdict};

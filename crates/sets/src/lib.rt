@@ -2,6 +2,8 @@
 // numbered from 0, and a number of 64 or more is in no set. A contract says what a result is by
 // the strands in it, never by bits: the laws of these names stand in `proofs/`, over any number
 // of words.
+#![tactic(auto)]
+
 ghost use Rattle.std.specs.Prelude.{◌≡◌, false, ◌&&◌, ◌||◌, eqb, length};
 ghost use Rattle.sets.specs.Set.{has, word, members, next_of, rest_of};
 

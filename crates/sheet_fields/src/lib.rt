@@ -2,6 +2,8 @@
 //
 // A record is a line of fields with commas between them; a field is bare or in quotes. A line ends with CR LF, with LF
 // alone, or with the text. Nothing is copied: a field is told by its places in the caller's own text.
+#![tactic(auto)]
+
 ghost use Rattle.std.specs.Prelude.{◌≡◌, cond, ◌+◌, ◌^◌, ◌<◌, eqb, ltb, length, drop};
 ghost use Rattle.sheet_fields.specs.Fields.{is_plain, plain_length, quoted_length, ending_of, bare_field, quoted_field, moved, field_at};
 ghost use Rattle.sheet_fields.specs.Runs.{field_fault};

@@ -1,4 +1,6 @@
 // Entries of a lent text: entry i is what stands from offset i up to offset i + 1.
+#![tactic(auto)]
+
 ghost use Rattle.std.specs.Prelude.{◌≡◌, true, ◌+◌, ◌<◌, ◌^◌, length, get_or};
 ghost use Rattle.text_entries.specs.Entries.{part, after, entry_of, offsets_fit, are_flags, entries_sized, same_bytes};
 

@@ -1,5 +1,7 @@
 // The front of a slice by a count: what was read into it, or written. A count past the end gives
 // the whole slice, so that a caller has nothing to show; a byte past the end is 0 likewise.
+#![tactic(auto)]
+
 ghost use Rattle.std.specs.Prelude.{◌≡◌, min, get_or, take};
 
 pub fn first_bytes<'a>(s: &'a [u8], n: usize) -> &'a [u8]

@@ -1,5 +1,7 @@
 // Whether bytes are a text: UTF-8 after RFC 3629, without the characters that XML does not allow and without control
 // characters other than tab, line feed and carriage return.
+#![tactic(auto)]
+
 ghost use Rattle.std.specs.Prelude.{◌≡◌};
 ghost use Rattle.text_plain.specs.Texts.{is_between, is_alone, is_second, is_two, is_third, is_three, is_four, character_length, first_stray, has_mark, without_mark};
 

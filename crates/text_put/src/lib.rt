@@ -3,6 +3,8 @@
 // Each `put_` function puts a text at the place `at`, leaves the rest of the slice as it is, and gives back the next place.
 // What does not fit is cut off, and the next place is then the slice's end: a run of these calls leaves the texts one after
 // the other, or as much of their front as has room.
+#![tactic(auto)]
+
 ghost use Rattle.std.specs.Prelude.{◌≡◌, cond, nat_abs};
 ghost use Rattle.text_put.specs.Puts.{Put, number_text, signed_text, float_text};
 ghost use Rattle.text_put.specs.Forms.{filled_byte, filled};

@@ -1,4 +1,6 @@
 // What every part passes along: a base energy, a refusal, the answers; and the temperature.
+#![tactic(auto)]
+
 ghost use Rattle.std.specs.Prelude.{◌≡◌, [], ◌∷◌};
 ghost use Rattle.units.specs.Limits.{from_one_to, all_limits};
 ghost use Rattle.units.specs.Refusals.{check, refuses};
