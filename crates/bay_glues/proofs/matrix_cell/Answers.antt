@@ -1,5 +1,5 @@
 -- `bay_glues::matrix_cell` meets its contract: a row that begins behind the end has no number. Assumes nothing.
-use Prim.Native.Nat.{◌+◌, ◌*◌, ◌≤◌}
+use Prim.Native.Nat.{◌+◌, ◌*◌}
 use mathlib.Core.Path.{sym, ◌∙◌}
 use native.Mathlib.Omega.{arith}
 use lib.Ieee.{nan, div, of_bits}
@@ -7,17 +7,19 @@ use lib.ListN.{length, get_or-eq_default}
 use borrow.Author.Tests.{leb-true, leb-false}
 use Rattle.bay_glues.proofs.matrix_cell.Goals as goal
 
--- a row that begins within the matrix begins at a number that fits
-within : (c : tie.Then1) → let a = c.before.before.before.args in a.a * a.glues ≤ length a.matrix.now
-within c =
-    let a = c.before.before.before.args in
-    leb-true (a.a * a.glues) (length a.matrix.now) (sym c.before.begins-within.ensures ∙ c.if1.true)
-
 pub overflow_mul-row : goal.overflow_mul-row
-overflow_mul-row c = omega (arith, within c)
+overflow_mul-row c = omega (
+  arith,
+  (let a = c.args in
+      leb-true (a.a * a.glues) (length a.matrix.now) (sym c.begins_within.ensures ∙ c.if-begins_within.true)),
+)
 
 pub overflow_add-row : goal.overflow_add-row
-overflow_add-row c = omega (arith, within c)
+overflow_add-row c = omega (
+  arith,
+  (let a = c.args in
+      leb-true (a.a * a.glues) (length a.matrix.now) (sym c.begins_within.ensures ∙ c.if-begins_within.true)),
+)
 
 pub returns : goal.returns
 unfolding div of_bits

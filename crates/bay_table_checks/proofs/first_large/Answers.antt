@@ -13,7 +13,7 @@ pub loop-i-init : goal.loop-i-init
 loop-i-init c = (omega arith, sym (zero-add _))
 
 pub offset_bounds-numbers-i : goal.offset_bounds-numbers-i
-offset_bounds-numbers-i c = scaled_Fits _ _ 4 c.loop-i-test.true c.well-formed.0.1
+offset_bounds-numbers-i c = scaled_Fits _ _ 4 c.loop-i-test.true c.well_formed.0.1
 
 pub overflow_cast-numbers : goal.overflow_cast-numbers
 overflow_cast-numbers c = omega (arith, c.type_inv.numbers c.loop-i.i)

@@ -11,11 +11,11 @@ loop-i-init c = refl
 
 pub returns-then-not-is_plain : goal.returns-then-not-is_plain
 returns-then-not-is_plain c = let text = c.args.text.now in
-    omega (arith, c.loop-i.invariant, plain_stops text c.loop-i.i c.loop-i-test.true (sym c.is_plain.ensures ∙ not-true c.is_plain.result c.if-not-is_plain.true))
+    omega (arith, c.loop-i.invariant, plain_stops text c.loop-i.i c.loop-i-test.true (sym c.is_plain.ensures ∙ not-true c.is_plain.result c.if-not-is_plain.true-raw))
 
 pub loop-i-preserved : goal.loop-i-preserved
 loop-i-preserved c = let text = c.args.text.now in
-    omega (arith, c.loop-i.invariant, plain_next text c.loop-i.i c.loop-i-test.true (sym c.is_plain.ensures ∙ not-false c.is_plain.result c.if-not-is_plain.false))
+    omega (arith, c.loop-i.invariant, plain_next text c.loop-i.i c.loop-i-test.true (sym c.is_plain.ensures ∙ not-false c.is_plain.result c.if-not-is_plain.false-raw))
 
 pub returns : goal.returns
 returns c = let text = c.args.text.now in

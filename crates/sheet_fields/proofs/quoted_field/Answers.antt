@@ -16,9 +16,9 @@ overflow_add-close c = let a = c.args in
 pub placed_at-requires : goal.placed_at-requires
 placed_at-requires c = let to = c.quoted_end-to.result in
     let inside = quote_within c.args.text.now to (sym c.byte_at.ensures ∙ c.if-byte_at-ne34.false) in
-    width_fits c.args.text.now (to + 1) c.Ending-at.result c.Ending-at.ensures (omega arith) (omega arith)
+    width_fits c.args.text.now (to + 1) c.ending_at-ending.result c.ending_at-ending.ensures (omega arith) (omega arith)
 
 pub returns : goal.returns
 returns c = let a = c.args in
-    let e = c.Ending-at in
-    quoted_found a.text.now a.at c.quoted_end-to.result c.quoted_end-to.ensures e.result c.placed_at_lem.result (sym c.byte_at.ensures ∙ c.if-byte_at-ne34.false) e.ensures c.placed_at_lem.ensures
+    let e = c.ending_at-ending in
+    quoted_found a.text.now a.at c.quoted_end-to.result c.quoted_end-to.ensures e.result c.placed_at.result (sym c.byte_at.ensures ∙ c.if-byte_at-ne34.false) e.ensures c.placed_at.ensures

@@ -5,7 +5,7 @@ use Rattle.text_digits.proofs.Worth.{float_read, float_bad}
 use Rattle.text_digits.proofs.float.Goals as goal
 
 pub returns-in-Of : goal.returns-in-Of
-returns-in-Of c = ap FloatValue.Of c.float_of.ensures ∙ float_read _ c.n-1.given.0.0 (sym c.bits.ensures ∙ c.n-1.given.1)
+returns-in-Of c = ap FloatValue.Of c.float_of.ensures ∙ float_read _ c.in-Of.n (sym c.bits.ensures ∙ c.in-Of.is)
 
 pub returns-in-Unreadable : goal.returns-in-Unreadable
-returns-in-Unreadable c = float_bad _ (sym c.bits.ensures ∙ c.enum_told-1.given.1)
+returns-in-Unreadable c = float_bad _ (sym c.bits.ensures ∙ c.in-Unreadable.is)

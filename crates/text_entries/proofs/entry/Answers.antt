@@ -4,10 +4,10 @@ use Rattle.text_entries.proofs.Bounds.{entry_starts, offset_within}
 use Rattle.text_entries.proofs.entry.Goals as goal
 
 pub slice_bounds-result-count : goal.slice_bounds-result-count
-slice_bounds-result-count c = entry_starts (length c.args.text.now) c.args.offsets.now c.args.i c.requires.1 c.requires.0
+slice_bounds-result-count c = entry_starts (length c.args.text.now) c.args.offsets.now c.args.i c.requires.offsets_value c.requires.i_in_bounds
 
 pub slice_bounds-result-start : goal.slice_bounds-result-start
-slice_bounds-result-start c = sub-result c
+slice_bounds-result-start c = (entry_starts (length c.args.text.now) c.args.offsets.now c.args.i c.requires.offsets_value c.requires.i_in_bounds)
 
 pub slice_bounds-result-end : goal.slice_bounds-result-end
-slice_bounds-result-end c = offset_within (length c.args.text.now) c.args.offsets.now _ c.requires.1 c.requires.0
+slice_bounds-result-end c = offset_within (length c.args.text.now) c.args.offsets.now _ c.requires.offsets_value c.requires.i_in_bounds

@@ -10,7 +10,7 @@ pub loop-i-init : goal.loop-i-init
 loop-i-init c = (omega arith, refl)
 
 pub offset_bounds-offsets-i : goal.offset_bounds-offsets-i
-offset_bounds-offsets-i c = scaled_Fits _ _ 8 c.loop-i-test.true c.well-formed.0.1
+offset_bounds-offsets-i c = scaled_Fits _ _ 8 c.loop-i-test.true c.well_formed.0.1
 
 pub returns-then-next-last : goal.returns-then-next-last
 returns-then-next-last c = sym (c.loop-i.invariant.1 ∙ offset_falls _ _ _ _ c.loop-i-test.true c.if-next-last.true)

@@ -37,21 +37,18 @@ not_below : (z : ℤ) → lt_z z (pos 0) ≡ false → T (non_neg z)
 not_below (pos n) e = tt
 not_below (negsuc n) e = subst T e tt
 
--- the facts of the way on which the number is negative
-negative : (c : tie.Then1) → Mirrored (pos 0 -ℤ wide c.before.args.n c.before.ranges.n) c.before.args.n
-negative c =
-    let z = c.before.args.n in
-    let f = c.before.ranges.n in
-    subst (λ (y : ℤ). Mirrored (pos 0 -ℤ y) z) (sym (wide_is z f)) (mirrored z f (subst (λ (y : ℤ). lt_z y (pos 0) ≡ true) (wide_is z f) c.if1.true))
-
 pub overflow_cast-wide : goal.overflow_cast-wide
 overflow_cast-wide c = subst (SFits w64) (sym (to_z-of_z c.ranges.n)) (sfits_widen tt c.ranges.n)
 
 pub overflow_sub-result : goal.overflow_sub-result
-overflow_sub-result c = (negative c).ranges
+overflow_sub-result c = ((let z = c.args.n in
+    let f = c.ranges.n in
+    subst (λ (y : ℤ). Mirrored (pos 0 -ℤ y) z) (sym (wide_is z f)) (mirrored z f (subst (λ (y : ℤ). lt_z y (pos 0) ≡ true) (wide_is z f) c.if-wide-lt0.true)))).ranges
 
 pub overflow_cast-result : goal.overflow_cast-result
-overflow_cast-result c = let m = negative c in
+overflow_cast-result c = let m : Mirrored (pos 0 -ℤ wide c.args.n c.ranges.n) c.args.n = let z = c.args.n in
+    let f = c.ranges.n in
+    subst (λ (y : ℤ). Mirrored (pos 0 -ℤ y) z) (sym (wide_is z f)) (mirrored z f (subst (λ (y : ℤ). lt_z y (pos 0) ≡ true) (wide_is z f) c.if-wide-lt0.true)) in
     let back = sym (to_z-of_z m.fits) in
     (subst (λ (y : ℤ). T (non_neg y)) back m.up, subst (λ (y : ℤ). Fits w64 (nat_abs y)) back (Fits-nat_abs tt m.fits))
 
@@ -62,7 +59,9 @@ overflow_cast-result-else-wide-lt0 c = let z = c.args.n in
     (not_below (wide z f) c.if-wide-lt0.false, subst (λ (y : ℤ). Fits w64 (nat_abs y)) back (Fits-nat_abs tt f))
 
 pub returns-then-wide-lt0 : goal.returns-then-wide-lt0
-returns-then-wide-lt0 c = let m = negative c in ap nat_abs (to_z-of_z m.fits) ∙ m.size
+returns-then-wide-lt0 c = let m : Mirrored (pos 0 -ℤ wide c.args.n c.ranges.n) c.args.n = let z = c.args.n in
+    let f = c.ranges.n in
+    subst (λ (y : ℤ). Mirrored (pos 0 -ℤ y) z) (sym (wide_is z f)) (mirrored z f (subst (λ (y : ℤ). lt_z y (pos 0) ≡ true) (wide_is z f) c.if-wide-lt0.true)) in ap nat_abs (to_z-of_z m.fits) ∙ m.size
 
 pub returns-else-wide-lt0 : goal.returns-else-wide-lt0
 returns-else-wide-lt0 c = ap nat_abs (wide_is c.args.n c.ranges.n)
