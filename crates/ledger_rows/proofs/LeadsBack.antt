@@ -32,11 +32,11 @@ module _ (z : Scan) where
   none i h = record { legal = tt; at = omega arith; sum = sym (none_held z i); noted = refl }
 
   -- a filling at row a·w + q goes on with the strand at position p to row q·c + p, where the strand at position a is chosen to leave
-  goes_on : (k q p a : ℕ) (f : List ℕ) → q < size z k z.kept → p < length (z.strands k)
+  goes_on_lem : (k q p a : ℕ) (f : List ℕ) → q < size z k z.kept → p < length (z.strands k)
       → row_of z (energies z k) k q p ≡ candidate z (energies z k) k q p a → Back z k (came_from z k q a) f
       → Back z (suc k) (q * length (z.strands k) + p) (get_or (z.strands k) p 0 ∷ f)
   unfolding row scan_sum
-  goes_on k q p a f h b held before =
+  goes_on_lem k q p a f h b held before =
       let l = before.legal in
       let w = size z k z.kept in
       let t = get_or (z.strands k) p 0 in
@@ -109,7 +109,7 @@ module _ (z : Scan) where
       let c = length (z.strands k) in
       let f = trace z k (row_before z k i) in
       subst (λ r. Back z (suc k) r (get_or (z.strands k) (i % c) 0 ∷ f)) at.own.split
-      (goes_on k (i / c) (i % c) at.leaver f at.own.whole at.own.rest at.held (subst (λ r. Back z k r f) at.led before))
+      (goes_on_lem k (i / c) (i % c) at.leaver f at.own.whole at.own.rest at.held (subst (λ r. Back z k r f) at.led before))
 
   pub leads_back : (k i : ℕ) → EachHasStrand z k → ((k : ℕ) → Rising (z.strands k)) → i < size z k (suc z.kept) → Back z k i (trace z k i)
   unfolding trace

@@ -8,6 +8,7 @@ use lib.Ieee.{Float, nan, inf, fin, binary64, div, of_bits, nan_bits, is_nan}
 use lib.Ieee.Bits.{nan_bits_is}
 use native.Mathlib.Omega.{arith}
 use Rattle.text_digits.proofs.float_of.Goals as goal
+use Rattle.text_digits.proofs.float_of.Goals.{then-exponent-eq2047+else-below-ne0, else-exponent-eq2047}
 
 nan_is : (x : Float) → is_nan x ≡ true → nan ≡ x
 unfolding is_nan
@@ -37,5 +38,8 @@ returns-then-below-ne0 c = let bits = c.args.bits in zeros ∙ nan_is (of_bits b
 
 pub float_from_bits-result : goal.float_from_bits-result
 float_from_bits-result c = let bits = c.args.bits in
-    let plain : nan_bits binary64 bits ≡ false = ⊎_elim (λ w. no_digit bits w.0.taken w.1.left) (λ w. no_ones bits w.left) c.if-exponent-eq2047.branch in
+    let plain : nan_bits binary64 bits ≡ false = elim c.if-exponent-eq2047.branch [
+      then-exponent-eq2047+else-below-ne0 w ↦ no_digit bits w.if-exponent-eq2047.true w.if-below-ne0.false
+      | else-exponent-eq2047 w ↦ no_ones bits w.if-exponent-eq2047.false
+    ] in
     rw plain tt

@@ -15,5 +15,5 @@ float_to_bits-x c = rw (no_nan c.args.x c.if-x.false) tt
 pub returns : goal.returns
 returns c = let a = c.args in
     let spelt = c.hex-k.ensures in
-    let text = spelt.1.1 ∙ float_text_lem a.x c.hex-k.result c.if-x.false c.well_formed.1.1.0.1 spelt.1.0 in
+    let text = spelt.digits ∙ float_text_lem a.x c.hex-k.result c.if-x.false c.well_formed.1.1.0.1 spelt.len in
     put_as text c.put_text-2.ensures

@@ -7,5 +7,5 @@ use Rattle.text_put.proofs.put_number.Goals as goal
 pub returns : goal.returns
 returns c = let a = c.args in
     let spelt = c.decimal-k.ensures in
-    let text = spelt.1.1 ∙ number_text_lem a.n c.decimal-k.result spelt.1.0 c.ranges.n.fits in
+    let text = spelt.digits ∙ number_text_lem a.n c.decimal-k.result spelt.len c.ranges.n.fits in
     put_as text c.put_text.ensures

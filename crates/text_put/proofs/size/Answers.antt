@@ -19,7 +19,7 @@ module _ (z : ℤ) (f : SFits w32 z) where
   wide = to_z w64 (of_z w64 (to_z w32 (of_z w32 z)))
 
   wide_is : wide ≡ z
-  wide_is = ap (λ (y : ℤ). to_z w64 (of_z w64 y)) (to_z-of_z f) ∙ to_z-of_z (sfits_widen tt f)
+  wide_is = ap (λ (y : ℤ). to_z w64 (of_z w64 y)) (to_z-of_z f) ∙ to_z-of_z {w = w64} (sfits_widen {w = w32} {w' = w64} {z = z} tt f)
 
 -- the sizes of a negative number and of the one that is as far above 0
 record Mirrored (y z : ℤ) : Type 0 where
@@ -43,7 +43,7 @@ overflow_cast-wide c = subst (SFits w64) (sym (to_z-of_z c.ranges.n)) (sfits_wid
 pub overflow_sub-result : goal.overflow_sub-result
 overflow_sub-result c = ((let z = c.args.n in
     let f = c.ranges.n in
-    subst (λ (y : ℤ). Mirrored (pos 0 -ℤ y) z) (sym (wide_is z f)) (mirrored z f (subst (λ (y : ℤ). lt_z y (pos 0) ≡ true) (wide_is z f) c.if-wide-lt0.true)))).ranges
+    subst (λ (y : ℤ). Mirrored (pos 0 -ℤ y) z) (sym (wide_is z f)) (mirrored z f (subst (λ (y : ℤ). lt_z y (pos 0) ≡ true) (wide_is z f) c.if-wide-lt0.true)))).fits
 
 pub overflow_cast-result : goal.overflow_cast-result
 overflow_cast-result c = let m : Mirrored (pos 0 -ℤ wide c.args.n c.ranges.n) c.args.n = let z = c.args.n in
