@@ -8,7 +8,7 @@ use case_text::{first_bytes, is_case, line_end};
 use libc::STDOUT_FILENO;
 
 // How many bytes at the front of the room are the begin of a line, and whether the file goes on.
-#[derive(Drop)]
+#[derive(Clone, Copy)]
 pub(crate) struct Held {
     pub(crate) count: usize,
     pub(crate) more: bool,

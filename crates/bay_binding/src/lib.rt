@@ -1,4 +1,6 @@
 // The strands that may lie on an unseeded bay: strand 0, and each whose bottom glue binds the bay's.
+#![tactic(auto)]
+
 ghost use Rattle.std.specs.Prelude.{◌≡◌, ◌&&◌, ltb};
 ghost use Rattle.units.specs.Limits.{most_strands};
 ghost use Rattle.sets.specs.Set.{word};

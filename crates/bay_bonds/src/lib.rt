@@ -1,4 +1,6 @@
 // Bonds between glues: two strands side by side, and a strand on the scaffold, in units of R·T.
+#![tactic(auto)]
+
 ghost use Rattle.std.specs.Prelude.{◌≡◌};
 ghost use Rattle.bay_bonds.specs.Bonds.{glue_glue_dg, glue_bond, bond_we, bond_ns, bond_with_scaffold};
 

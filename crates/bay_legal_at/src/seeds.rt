@@ -3,7 +3,7 @@ ghost use Rattle.std.specs.Prelude.{◌≡◌, ◌%◌, ◌≤◌, ◌<◌, ◌+
 ghost use Rattle.units.specs.Limits.{most_side};
 ghost use Rattle.bay_legal_at.specs.Legal.{later, seed_at};
 
-#[derive(Drop)]
+#[derive(Clone, Copy)]
 pub enum Seed {
     Unseeded,
     Seeded(u32),

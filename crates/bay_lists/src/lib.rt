@@ -1,11 +1,13 @@
 // The lists that constrain bays: their shape, the list of a bay, and what it keeps of a set of strands.
+#![tactic(auto)]
+
 ghost use Rattle.std.specs.Prelude.{◌≡◌, true, ◌&&◌, ◌≤◌, ◌<◌, ◌*◌, get_or};
 ghost use Rattle.units.specs.Limits.{most_side};
 ghost use Rattle.sets.specs.Set.{has, word};
 ghost use Rattle.bay_lists.specs.Lists.{names, has_lists, offsets_shaped, constraints, offsets_read, by_offsets, list_of, list_allows};
 
 // Whether bays have lists. Beside absent ones the slices of offsets and tiles are not read.
-#[derive(Drop)]
+#[derive(Clone, Copy)]
 pub enum ConstraintKind {
     Absent,
     Lists,

@@ -1,4 +1,5 @@
 // The system: its sizes and slices, and what is refused of it.
+#![tactic(auto)]
 mod sizes;
 mod system;
 

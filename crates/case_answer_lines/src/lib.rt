@@ -1,5 +1,7 @@
 // The writer of answer lines that the libraries of cases share: a refusal with its values, a word with a number or with floats.
 // docs/CASES.md says what they look like; `text_put` says how a text is put.
+#![tactic(auto)]
+
 ghost use Rattle.std.specs.Prelude.{◌≡◌, ◌++◌};
 ghost use Rattle.units.specs.Refusals.{value_count};
 ghost use Rattle.text_put.specs.Puts.{Put, number_text, float_text};

@@ -9,7 +9,7 @@ use case_field_reads::{ListRead, at_most, numbers_field, small_numbers_field};
 use case_text::has_field;
 
 // Whether the constraints could be read, of which kind they are, and how many items each list has.
-#[derive(Drop)]
+#[derive(Clone, Copy)]
 pub struct ConstraintsRead {
     pub readable: bool,
     pub kind: ConstraintKind,

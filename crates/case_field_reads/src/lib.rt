@@ -9,7 +9,7 @@ use case_lists::Count;
 use case_text::Number;
 
 // Whether a list could be read, and how many items it has, 0 where it could not.
-#[derive(Drop)]
+#[derive(Clone, Copy)]
 pub struct ListRead {
     pub readable: bool,
     pub count: usize,

@@ -5,7 +5,7 @@ use case_parts::{bytes_between, is_read, numbers_between, text_between, three_re
 use units::BASE_NUMBERS;
 
 // Whether the texts and bytes of a case could be read, and the length of each.
-#[derive(Drop)]
+#[derive(Clone, Copy)]
 pub(crate) struct TextsRead {
     pub(crate) readable: bool,
     pub(crate) text: usize,
@@ -30,7 +30,7 @@ pub(crate) fn read_texts(line: &[u8], room: &mut [u8]) -> TextsRead {
 }
 
 // Whether the lists of numbers of a case could be read, and the length of each.
-#[derive(Drop)]
+#[derive(Clone, Copy)]
 pub(crate) struct ListsRead {
     pub(crate) readable: bool,
     pub(crate) offsets: usize,
@@ -52,7 +52,7 @@ pub(crate) fn read_lists(line: &[u8], room: &mut [usize]) -> ListsRead {
 }
 
 // Whether the single numbers of a case could be read, and each of them.
-#[derive(Drop)]
+#[derive(Clone, Copy)]
 pub(crate) struct NumbersRead {
     pub(crate) readable: bool,
     pub(crate) bases_length: usize,

@@ -1,4 +1,6 @@
 // What lent tables hold: whether each place from one on still has the value that it had.
+#![tactic(auto)]
+
 ghost use Rattle.std.specs.Prelude.{cond, ◌≡◌, eqb};
 ghost use Rattle.text_put.specs.Puts.{place_after, written};
 ghost use Rattle.case_lent.specs.Kept.{all_from, same_float, rest_text};

@@ -10,7 +10,7 @@ pub use lists::{bytes_into, floats_into, numbers_into, small_numbers_into};
 pub use text::text_into;
 
 // How many bytes or items were written to the front of a lent slice.
-#[derive(Drop)]
+#[derive(Clone, Copy)]
 pub enum Count {
     Of(usize),
     Unreadable,

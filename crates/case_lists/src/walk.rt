@@ -9,7 +9,7 @@ use case_text::{Number, item_end, number};
 
 // Where a walk has come to: an item that can be read and has room (`going`), what it is worth, how
 // many are before it, and where it ends. Else the walk has ended, with the `whole` list or before it.
-#[derive(Drop)]
+#[derive(Clone, Copy)]
 pub struct Walk {
     pub going: bool,
     pub whole: bool,

@@ -6,7 +6,7 @@ use case_fields::number_or;
 use case_text::{Number, first_floats, first_numbers};
 
 // Whether the cells and the lengths could be read, and how long the lent matrices are.
-#[derive(Drop)]
+#[derive(Clone, Copy)]
 pub struct Matrices {
     pub readable: bool,
     pub delta_g: usize,

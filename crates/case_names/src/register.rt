@@ -13,7 +13,7 @@ use sdc2d::register;
 use units::{BASE_NUMBERS, CountAnswer, MOST_BASES};
 
 // The numbers of a case, the lengths of the lent tables among them, and whether all could be read and there is room.
-#[derive(Drop)]
+#[derive(Clone, Copy)]
 struct Asked {
     readable: bool,
     rows: usize,

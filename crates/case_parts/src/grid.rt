@@ -11,7 +11,7 @@ use units::MOST_SIDE;
 const PAST_SIDE: usize = MOST_SIDE + 1;
 
 // Whether both could be read, and what they are.
-#[derive(Drop)]
+#[derive(Clone, Copy)]
 pub struct GridRead {
     pub readable: bool,
     pub rows: usize,

@@ -1,4 +1,6 @@
 // What a library of calls says to a line of a case file, and the line that two of them answer with.
+#![tactic(auto)]
+
 ghost use Rattle.text_put.specs.Puts.{Put};
 ghost use Rattle.case_replies.specs.Replies.{energy_text};
 
@@ -6,7 +8,7 @@ use case_answer_lines::{put_float, put_text, refused};
 use units::EnergyAnswer;
 
 // How far the answer goes that was put into a lent text from its start, or that the line's call is another library's.
-#[derive(Drop)]
+#[derive(Clone, Copy)]
 pub enum Reply {
     To(usize),
     Unknown,

@@ -9,7 +9,7 @@ use case_text::first_bytes;
 use sheet::read_sheet;
 
 // The numbers of a case, and whether all could be read and there is room for the tables.
-#[derive(Drop)]
+#[derive(Clone, Copy)]
 struct Asked {
     readable: bool,
     rows: usize,

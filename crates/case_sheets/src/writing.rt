@@ -7,7 +7,7 @@ use case_text::{first_numbers, first_small_numbers};
 use sheet::write_sheet;
 
 // The numbers of a case, and whether all could be read and there is room for the text.
-#[derive(Drop)]
+#[derive(Clone, Copy)]
 struct Asked {
     readable: bool,
     rows: usize,

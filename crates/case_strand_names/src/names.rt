@@ -6,7 +6,7 @@ use case_text::{field, has_field};
 use name_strands::NUMERALS;
 
 // Whether the names could be read, and how long each part is.
-#[derive(Drop)]
+#[derive(Clone, Copy)]
 pub(crate) struct NamesRead {
     pub(crate) readable: bool,
     pub(crate) text: usize,

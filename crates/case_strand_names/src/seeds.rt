@@ -14,7 +14,7 @@ use sdc2d::seeds_by_name;
 use units::Check;
 
 // Whether the seeds could be read, and how long each part is.
-#[derive(Drop)]
+#[derive(Clone, Copy)]
 struct SeedsRead {
     readable: bool,
     places: usize,
@@ -36,7 +36,7 @@ fn read_seeds(line: &[u8], bytes: &mut [u8], numbers: &mut [usize]) -> SeedsRead
 }
 
 // The numbers of a case, and whether all could be read and there is room for the table.
-#[derive(Drop)]
+#[derive(Clone, Copy)]
 struct Asked {
     readable: bool,
     rows: usize,

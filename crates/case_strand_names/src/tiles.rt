@@ -32,7 +32,7 @@ fn put_tile<'a>(
 }
 
 // The numbers of a case, and whether both could be read.
-#[derive(Drop)]
+#[derive(Clone, Copy)]
 struct Asked {
     readable: bool,
     strands: usize,

@@ -12,7 +12,7 @@ use lists::lists_into;
 use sizes::read_sizes;
 
 // What was read of a system: whether all of it could be, its sizes, and how far each table is filled.
-#[derive(Drop)]
+#[derive(Clone, Copy)]
 pub struct SystemRead {
     pub readable: bool,
     pub sizes: Sizes,

@@ -4,7 +4,7 @@ ghost use Rattle.case_systems.specs.Within.{ListsWithin};
 use case_field_reads::{floats_field, small_numbers_field};
 
 // Whether all four could be read, and how many items each has.
-#[derive(Drop)]
+#[derive(Clone, Copy)]
 pub(crate) struct Lists {
     pub readable: bool,
     pub strand_glues: usize,

@@ -5,7 +5,7 @@ use case_fields::{float_field, number_field};
 use case_text::{FloatValue, Number};
 
 // Whether all sizes could be read, and the sizes.
-#[derive(Drop)]
+#[derive(Clone, Copy)]
 pub(crate) struct SizesRead {
     pub readable: bool,
     pub sizes: Sizes,

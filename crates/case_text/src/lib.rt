@@ -3,6 +3,7 @@
 // Every function takes what it is lent, whatever it is: none has a `requires`. Values are read in
 // place, so a name, a field or an item is a part of the line that it stands in. All take time
 // linear in what they read.
+#![tactic(auto)]
 mod fields;
 mod places;
 mod plain;

@@ -1,4 +1,6 @@
 // ΔG of one sequence in whole hundredths of a kcal/mol.
+#![tactic(auto)]
+
 ghost use Rattle.std.specs.Prelude.{◌≡◌, ◌-◌, ◌<◌, ◌≤◌, pos, ◌-ℤ◌, length};
 ghost use Rattle.units.specs.Limits.{most_letters};
 ghost use Rattle.dna_hundredths.specs.Hundredths.{is_weak, end_term, steps_hundredths, single_hundredths};

@@ -9,7 +9,7 @@ ghost use Rattle.dna_letters.specs.Letters.{is_letter, first_bad, letters_verdic
 use units::{Check, MOST_LETTERS, Refusal, refused};
 
 // In the Rust's order, which is that of its tables.
-#[derive(Drop)]
+#[derive(Clone, Copy)]
 pub enum DnaNucleotideBase {
     A,
     T,

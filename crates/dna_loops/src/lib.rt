@@ -11,7 +11,7 @@ pub const LOOP_TABLE: [f64; 15] = [
     3.2, 3.6, 4.0, 4.4, 4.6, 4.8, 4.9, 4.9, 5.2, 5.4, 5.6, 5.8, 5.9, 6.3, 6.6,
 ];
 
-#[derive(Drop)]
+#[derive(Clone, Copy)]
 pub enum LoopPenalty {
     Value(f64),
     NoValue,

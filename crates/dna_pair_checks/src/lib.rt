@@ -1,4 +1,6 @@
 // What is refused of two sequences written letter over letter before their windows are gone through.
+#![tactic(auto)]
+
 ghost use Rattle.std.specs.Prelude.{◌≡◌};
 ghost use Rattle.units.specs.Refusals.{check};
 ghost use Rattle.dna_pair_checks.specs.Tests.{pair_letters, pair_tests};

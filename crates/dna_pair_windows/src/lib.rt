@@ -11,7 +11,7 @@ use dna_steps::{add_energy, dg_ds, no_energy};
 use units::BaseEnergy;
 
 // The windows gone through so far: their sum and how many bad windows came last, or the first closed loop's length without a value.
-#[derive(Drop)]
+#[derive(Clone, Copy)]
 pub enum PairSum {
     Going(BaseEnergy, usize),
     NoLoopValue(usize),

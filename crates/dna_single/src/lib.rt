@@ -1,4 +1,6 @@
 // One sequence with its perfect fit: what is refused of it, and the sum of its steps with the start term.
+#![tactic(auto)]
+
 ghost use Rattle.std.specs.Prelude.{◌≡◌, ◌-◌, length};
 ghost use Rattle.units.specs.Refusals.{check};
 ghost use Rattle.dna_single.specs.Single.{steps_sum, single_energy, within_limit_verdict, sequence_verdict, single_at_verdict};

@@ -1,4 +1,6 @@
 // The values of a step and of the start.
+#![tactic(auto)]
+
 ghost use Rattle.std.specs.Prelude.{◌≡◌, ◌≤◌};
 ghost use Rattle.dna_steps.specs.Steps.{step_place, step_of, dg_ds, start, add_energy, no_energy};
 

@@ -14,7 +14,7 @@ pub fn is_bad(x: f64) -> bool
 }
 
 // A running choice: the least energy so far, and whose it is (a place, a strand).
-#[derive(Drop)]
+#[derive(Clone, Copy)]
 pub struct Choice {
     pub energy: f64,
     pub who: usize,

@@ -8,7 +8,7 @@ use ledger_row_choice::{Own, PAIRS, bond_at, row};
 use units::MOST_STRANDS;
 
 // What the code knows of a bay when it writes its block.
-#[derive(Drop)]
+#[derive(Clone, Copy)]
 pub struct Bay {
     pub set: u64,
     pub leaving: u64,

@@ -80,7 +80,7 @@ pub fn need(window: usize, sets: &[u64]) -> usize
 }
 
 // Where the last block stands.
-#[derive(Drop)]
+#[derive(Clone, Copy)]
 pub struct Last {
     pub from: usize,
     pub end: usize,

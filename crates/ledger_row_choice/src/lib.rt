@@ -13,7 +13,7 @@ pub const PAIRS: usize = MOST_STRANDS * MOST_STRANDS;
 
 // What is fixed of a strand in a row: its bay energy, its bond to the previous bay, and which
 // neighbours are there.
-#[derive(Drop)]
+#[derive(Clone, Copy)]
 pub struct Own {
     pub strand: usize,
     pub bay: f64,

@@ -6,7 +6,7 @@ ghost use Rattle.ledger_way_back.specs.Tracing.{in_order, trace_in, Traceable};
 ghost use Rattle.ledger_way_back.specs.Places.{place_of, OnBlock, row_back};
 
 // A place on the way: a row of a block, how many rows the block has, and where it ends.
-#[derive(Drop)]
+#[derive(Clone, Copy)]
 pub struct Place {
     pub row: usize,
     pub rows: usize,

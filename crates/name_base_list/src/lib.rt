@@ -1,4 +1,6 @@
 // A list of bases: place 2j holds the offset and place 2j + 1 the length of base j in the text of names.
+#![tactic(auto)]
+
 ghost use Rattle.std.specs.Prelude.{◌≡◌, true, ◌+◌, ◌≤◌, length};
 ghost use Rattle.units.specs.Limits.{most_bases};
 ghost use Rattle.name_base_list.specs.Bases.{bases_fit, find_base, base_number, glue_of, Searchable};

@@ -1,4 +1,6 @@
 // The glues of strands and bays, by a list of bases, written into tables.
+#![tactic(auto)]
+
 ghost use Rattle.std.specs.Prelude.{◌≡◌, ◌++◌, ◌+◌, ◌*◌, ◌≤◌, ◌<◌, length, take, drop};
 ghost use Rattle.units.specs.Glues.{five_of};
 ghost use Rattle.name_glues.specs.Names.{glue_names, GluesReadable};

@@ -1,4 +1,6 @@
 // Names of glues as entries: the base and the glue of each by a list of bases, and which names of the scaffold end in two or more stars.
+#![tactic(auto)]
+
 ghost use Rattle.std.specs.Prelude.{◌≡◌, ◌-◌, ◌≤◌, ◌<◌, length};
 ghost use Rattle.units.specs.Refusals.{check};
 ghost use Rattle.name_base_list.specs.Bases.{Searchable};

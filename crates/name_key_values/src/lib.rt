@@ -9,7 +9,7 @@ use text_entries::part_of;
 use units::{BaseEnergy, Check, is_finite, refused_with};
 
 // ΔG and ΔS, or the offsets of a sequence in the sequences' text.
-#[derive(Drop)]
+#[derive(Clone, Copy)]
 pub enum GsOrSeq {
     GS(f64, f64),
     Seq(usize, usize),

@@ -1,4 +1,6 @@
 // The names of a key, and the glues that it joins.
+#![tactic(auto)]
+
 ghost use Rattle.std.specs.Prelude.{◌≡◌, true, ◌+◌, ◌<◌, length};
 ghost use Rattle.text_entries.specs.Entries.{offsets_fit};
 ghost use Rattle.name_base_list.specs.Bases.{Searchable};
@@ -8,14 +10,14 @@ use name_base_list::{base_number, glue_number};
 use text_entries::entry;
 
 // One name or two, as entries of the text.
-#[derive(Drop)]
+#[derive(Clone, Copy)]
 pub enum RefOrPair {
     Ref(usize),
     Pair(usize, usize),
 }
 
 // The two glues that a key joins, or nothing where a name is not registered.
-#[derive(Drop)]
+#[derive(Clone, Copy)]
 pub enum Joined {
     Glues(usize, usize),
     Nothing,

@@ -1,4 +1,6 @@
 // The bases of a registering: which bases the entries bring, and whether they are too many.
+#![tactic(auto)]
+
 ghost use Rattle.std.specs.Prelude.{◌≡◌, ◌+◌, ◌≤◌, ◌<◌, ◌∷◌, ◌++◌, length, take, drop, replicate};
 ghost use Rattle.units.specs.Limits.{base_numbers};
 ghost use Rattle.name_glues.specs.Names.{glue_names, GluesReadable};

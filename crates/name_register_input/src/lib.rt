@@ -1,4 +1,6 @@
 // What is tested before registering: sizes and lengths, and whether the names can be read.
+#![tactic(auto)]
+
 ghost use Rattle.std.specs.Prelude.{◌≡◌, ◌≤◌};
 ghost use Rattle.units.specs.Limits.{most_strands};
 ghost use Rattle.units.specs.Refusals.{check};

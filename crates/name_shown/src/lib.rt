@@ -1,4 +1,6 @@
 // The part of a lent text that is shown for a tile.
+#![tactic(auto)]
+
 ghost use Rattle.std.specs.Prelude.{◌≡◌, ◌+◌, ◌*◌, ◌<◌, ◌≤◌, length};
 ghost use Rattle.text_entries.specs.Entries.{part, after, same_bytes};
 ghost use Rattle.name_strands.specs.Numerals.{numeral_start, numeral_end};

@@ -1,4 +1,6 @@
 // The names of the strands, and the tests on them.
+#![tactic(auto)]
+
 ghost use Rattle.std.specs.Prelude.{◌≡◌, ◌<◌, length};
 ghost use Rattle.text_entries.specs.Entries.{same_bytes};
 ghost use Rattle.name_strands.specs.Numerals.{numerals_text};

@@ -9,7 +9,7 @@ use name_shown::shown;
 use name_strands::{names_read, names_sized};
 
 // That a tile's name is shown, or the number of the refusal.
-#[derive(Drop)]
+#[derive(Clone, Copy)]
 pub enum NumberAnswer {
     Shown,
     Refused(u32),

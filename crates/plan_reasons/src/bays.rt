@@ -10,7 +10,7 @@ use bay_lists::bay_list;
 use bay_system::Sizes;
 
 // A seed lies there; the list names nothing but 0; the list names other strands; or nothing but the bay's glue restricts it.
-#[derive(Drop)]
+#[derive(Clone, Copy)]
 pub enum BayReason {
     Seeded(u32),
     KeptEmpty,

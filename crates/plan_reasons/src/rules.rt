@@ -14,7 +14,7 @@ use bay_system::Sizes;
 
 // None; the bay's seed, which is another strand; no bond with the bay's glue; the bay's list, which leaves the strand out; no strand has
 // this number.
-#[derive(Drop)]
+#[derive(Clone, Copy)]
 pub enum StrandRule {
     Legal,
     OtherSeed,

@@ -76,7 +76,7 @@ pub(crate) fn plan_seeds(
 }
 
 // Whether seeds could be read, and how many numbers they are, three each.
-#[derive(Drop)]
+#[derive(Clone, Copy)]
 pub(crate) struct SeedsRead {
     pub(crate) sound: bool,
     pub(crate) numbers: usize,

@@ -6,7 +6,7 @@ use text_fronts::first_bytes;
 
 // What is to be shown. `why` says that a bay is asked about, which has a row and a column from 1; `svg` is the place of the word that
 // names the drawing's file, 0 where none is wanted.
-#[derive(Drop)]
+#[derive(Clone, Copy)]
 pub(crate) struct Wish {
     pub(crate) exact: bool,
     pub(crate) sheet: bool,
@@ -19,7 +19,7 @@ pub(crate) struct Wish {
 }
 
 // The row and the column of a bay, from 1; 0 and 0 where a text names none.
-#[derive(Drop)]
+#[derive(Clone, Copy)]
 pub(crate) struct Bay {
     pub(crate) row: usize,
     pub(crate) column: usize,

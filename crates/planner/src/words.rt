@@ -149,7 +149,7 @@ fn value_fault(place: usize) -> u8 {
 }
 
 // A word with a fault.
-#[derive(Drop)]
+#[derive(Clone, Copy)]
 pub(crate) struct WordFault {
     pub(crate) place: usize,
     pub(crate) fault: u8,

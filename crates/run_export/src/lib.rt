@@ -12,7 +12,7 @@ use units::EnergyAnswer;
 
 // An answer in numbers: the refusal's number, 0 where there is none, its first value, and the energy in kcal/mol, 0.0 where there is none.
 #[repr(C)]
-#[derive(Drop)]
+#[derive(Clone, Copy)]
 pub struct RunNumbers {
     pub number: u32,
     pub first: usize,

@@ -1,4 +1,6 @@
 // The order of the scan: which lines are the major ones, sets from rows into scan order, and strands from scan order back into rows.
+#![tactic(auto)]
+
 ghost use Rattle.std.specs.Prelude.{◌≡◌, ◌*◌, ◌≤◌, length, get_or, take};
 ghost use Rattle.units.specs.Limits.{most_side};
 ghost use Rattle.bay_scan_order.specs.Scan.{by_rows, window, number_at};

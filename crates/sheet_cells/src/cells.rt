@@ -9,7 +9,7 @@ use sheet_number_lists::{ListCount, count_numbers};
 
 // A field of a sheet: whether it is sound with a list for its content, whether its record goes on, the place after it, and how many
 // numbers it has.
-#[derive(Drop)]
+#[derive(Clone, Copy)]
 pub(crate) struct Cell {
     pub(crate) sound: bool,
     pub(crate) more: bool,
@@ -18,7 +18,7 @@ pub(crate) struct Cell {
 }
 
 // A record of a sheet: the number of its first fault, 0 where it has none; the place after it, and how many numbers it has.
-#[derive(Drop)]
+#[derive(Clone, Copy)]
 pub(crate) struct RecordCheck {
     pub(crate) fault: usize,
     pub(crate) next: usize,

@@ -8,14 +8,14 @@ mod cells;
 use cells::check_record;
 
 // A field of a sheet by its line and its number in it, both from 1; 0 and 0 where there is none.
-#[derive(Drop)]
+#[derive(Clone, Copy)]
 pub struct Place {
     pub line: usize,
     pub field: usize,
 }
 
 // The line and the number of a sheet's first fault, 0 and 0 where it has none, and how many numbers it then has.
-#[derive(Drop)]
+#[derive(Clone, Copy)]
 pub struct SheetCheck {
     pub line: usize,
     pub field: usize,

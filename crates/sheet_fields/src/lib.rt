@@ -12,7 +12,7 @@ ghost use Rattle.sheet_fields.specs.Scan.{quoted_step, placed};
 use text_fronts::byte_at;
 
 // How a field ends: sound, with more fields of its record to come, and how many bytes the end takes.
-#[derive(Drop)]
+#[derive(Clone, Copy)]
 pub struct Ending {
     pub sound: bool,
     pub more: bool,
@@ -21,7 +21,7 @@ pub struct Ending {
 
 // A field: whether it is sound, whether its record goes on, its content from one place to another, and the place after it.
 // A field that is not sound has no content.
-#[derive(Drop)]
+#[derive(Clone, Copy)]
 pub struct Field {
     pub sound: bool,
     pub more: bool,

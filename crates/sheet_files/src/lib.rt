@@ -1,4 +1,6 @@
 // The files of a folder, each read whole into a lent slice.
+#![tactic(auto)]
+
 ghost use Rattle.std.specs.Prelude.{◌≤◌, ◌≡◌, length};
 ghost use Rattle.io.specs.Counts.{IsPrefixLen, clamp_len};
 ghost use Rattle.text_put.specs.Puts.{Put};
@@ -9,7 +11,7 @@ use text_put::put_text;
 
 // What became of a file: whether it could be opened, whether it was read to its end, and how many bytes were read. Where these
 // are as many as the room has, the file may be longer.
-#[derive(Drop)]
+#[derive(Clone, Copy)]
 pub struct FileRead {
     pub opened: bool,
     pub whole: bool,
@@ -17,7 +19,7 @@ pub struct FileRead {
 }
 
 // What one read gave: how many bytes, and whether it failed. No bytes of a read that did not fail are the end of the file.
-#[derive(Drop)]
+#[derive(Clone, Copy)]
 struct Part {
     failed: bool,
     bytes: usize,

@@ -9,7 +9,7 @@ use sheet_numbers::decimal_at;
 use sheet_records::place_after;
 
 // The first record that is no key, and the number of the field that shows it; line 0 where there is none. Lines and fields count from 1.
-#[derive(Drop)]
+#[derive(Clone, Copy)]
 pub struct KeyFault {
     pub line: usize,
     pub field: usize,

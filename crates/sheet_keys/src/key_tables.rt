@@ -11,7 +11,7 @@ use sheet_numbers::decimal_at;
 use sheet_records::place_after;
 
 // How many bytes the names end at, and how many the sequences take.
-#[derive(Drop)]
+#[derive(Clone, Copy)]
 pub struct KeyTexts {
     pub names: usize,
     pub sequences: usize,

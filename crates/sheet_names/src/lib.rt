@@ -1,4 +1,6 @@
 // The contents of a sheet's fields as entries of one text: names that are laid one after the other, with the offsets between them.
+#![tactic(auto)]
+
 ghost use Rattle.std.specs.Prelude.{◌≡◌, cond, [], ◌∷◌, ◌+◌, ◌-◌, ◌*◌, ◌≤◌, ◌<◌, ltb, length, take, drop};
 ghost use Rattle.text_put.specs.Puts.{Put};
 ghost use Rattle.sheet_fields.specs.Fields.{content, unquoted};
@@ -13,7 +15,7 @@ use text_fronts::least;
 use text_put::put_text;
 
 // How many entries there are, and how many bytes they take.
-#[derive(Drop)]
+#[derive(Clone, Copy)]
 pub struct Entries {
     pub entries: usize,
     pub bytes: usize,

@@ -5,7 +5,7 @@ ghost use Rattle.sheet_number_lists.specs.Counts.{word_length, plain_number, sma
 use text_digits::{Number, whole};
 
 // Whether a word is a number, and its value, 0 where it is none.
-#[derive(Drop)]
+#[derive(Clone, Copy)]
 pub struct PlainNumber {
     pub sound: bool,
     pub value: u32,

@@ -8,7 +8,7 @@ use sheet_fields::field_at;
 use sheet_number_lists::{PlainNumber, plain_number};
 
 // Whether a field is a count, and the same counted from 0, 0 where it is none.
-#[derive(Drop)]
+#[derive(Clone, Copy)]
 pub struct Count {
     pub sound: bool,
     pub value: usize,

@@ -12,14 +12,14 @@ use sheet_records::place_after;
 use text_digits::FloatValue;
 
 // How a column is read: as logarithms, of which `-inf` is one, or as decimals; and whether a field may be blank.
-#[derive(Drop)]
+#[derive(Clone, Copy)]
 pub(crate) struct Kind {
     pub(crate) logarithms: bool,
     pub(crate) blanks: bool,
 }
 
 // Whether a field could be read, and its value, 0.0 where it could not.
-#[derive(Drop)]
+#[derive(Clone, Copy)]
 pub struct Reading {
     pub sound: bool,
     pub value: f64,

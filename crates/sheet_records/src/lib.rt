@@ -1,4 +1,6 @@
 // Sheets of records that all have the same number of fields, whatever stands in them: a test, and the places of fields.
+#![tactic(auto)]
+
 ghost use Rattle.std.specs.Prelude.{◌≡◌, ◌+◌, ◌^◌, ◌<◌, drop};
 ghost use Rattle.sheet_fields.specs.Runs.{bytes_in};
 ghost use Rattle.sheet_records.specs.Tables.{table_check, first_width, record_at};
@@ -7,7 +9,7 @@ use sheet_fields::{field_at, field_fault};
 use units::MOST_SIDE;
 
 // How many records a sheet has; or 0, with the line and the number of its first fault, both from 1.
-#[derive(Drop)]
+#[derive(Clone, Copy)]
 pub struct TableCheck {
     pub records: usize,
     pub line: usize,
@@ -15,7 +17,7 @@ pub struct TableCheck {
 }
 
 // A record: the number of its first fault, 0 where it has none, and the place after it.
-#[derive(Drop)]
+#[derive(Clone, Copy)]
 pub(crate) struct RecordCheck {
     pub(crate) fault: usize,
     pub(crate) next: usize,

@@ -9,7 +9,7 @@ use sheet_numbers::count_at;
 use sheet_records::place_after;
 
 // The first line with a row or a column that is none, and the number of the field, both from 1; both 0 where there is none.
-#[derive(Drop)]
+#[derive(Clone, Copy)]
 pub struct PlaceFault {
     pub line: usize,
     pub field: usize,

@@ -1,4 +1,5 @@
 // An energy as people read it: kcal/mol with two decimals.
+#![tactic(auto)]
 ghost use Rattle.std.specs.Prelude.{◌≡◌, ◌&&◌, ◌+◌, ◌*◌, ◌/◌, ◌^◌, ◌-◌, ◌<◌, ltb};
 ghost use Rattle.std.specs.Float.{binary64};
 ghost use Rattle.std.specs.Float.Ieee.{of_bits};
@@ -8,7 +9,7 @@ ghost use Rattle.text_energy.specs.Hundredths.{nearest_hundredth, pointed, energ
 use text_put::{put_float, put_number, put_text};
 
 // The nearest whole number of hundredths of an energy's size, and its sign; not known from 2^52 on, and of what is no number.
-#[derive(Drop)]
+#[derive(Clone, Copy)]
 pub struct Hundredths {
     pub known: bool,
     pub negative: bool,

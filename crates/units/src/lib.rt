@@ -43,7 +43,7 @@ pub const R: f64 = 1.98720425864083 / 1000.0;
 pub const T37C: f64 = 310.15;
 
 // The limits as the code has them, one by one those of the definitions.
-#[derive(Drop)]
+#[derive(Clone, Copy)]
 pub struct Limits {
     pub side: usize,
     pub strands: usize,
@@ -58,20 +58,20 @@ pub struct Limits {
 }
 
 // ΔG at 37 °C in kcal/mol, and ΔS in kcal/(mol·K).
-#[derive(Drop)]
+#[derive(Clone, Copy)]
 pub struct BaseEnergy {
     pub dg: f64,
     pub ds: f64,
 }
 
 // The glues of one strand: north, east, south, west, bottom.
-#[derive(Drop)]
+#[derive(Clone, Copy)]
 pub struct StrandGlues {
     pub glues: [u32; 5],
 }
 
 // A refusal of the rules' table: its number and its values in their order; an unused value is 0.
-#[derive(Drop)]
+#[derive(Clone, Copy)]
 pub struct Refusal {
     pub number: u32,
     pub first: usize,
@@ -79,35 +79,35 @@ pub struct Refusal {
 }
 
 // What a test of the input says.
-#[derive(Drop)]
+#[derive(Clone, Copy)]
 pub enum Check {
     Passed,
     Refused(Refusal),
 }
 
 // The answer of a call that gives a base energy.
-#[derive(Drop)]
+#[derive(Clone, Copy)]
 pub enum BaseEnergyAnswer {
     Found(BaseEnergy),
     Refused(Refusal),
 }
 
 // The answer of a call that gives an energy in kcal/mol.
-#[derive(Drop)]
+#[derive(Clone, Copy)]
 pub enum EnergyAnswer {
     Energy(f64),
     Refused(Refusal),
 }
 
 // The answer of a call that gives an energy in whole hundredths of a kcal/mol.
-#[derive(Drop)]
+#[derive(Clone, Copy)]
 pub enum HundredthsAnswer {
     Hundredths(i32),
     Refused(Refusal),
 }
 
 // The answer of a call that gives a count.
-#[derive(Drop)]
+#[derive(Clone, Copy)]
 pub enum CountAnswer {
     Count(usize),
     Refused(Refusal),

@@ -1,0 +1,14 @@
+-- `sheet_names::put_content` meets its contract. Assumes nothing.
+use native.Mathlib.Omega.{arith}
+use Rattle.text_put.proofs.Putting.{put_as}
+use Rattle.sheet_fields.proofs.Bounds.{field_at_within}
+use Rattle.sheet_names.proofs.Filling.{content_at}
+use Rattle.sheet_names.proofs.put_content.Goals as goal
+
+pub put_between-requires : goal.put_between-requires
+put_between-requires c = let w = field_at_within c.args.text.now c.args.at c.requires in
+    rw c.field_at-f.ensures (w.ordered, let on = w.onward in let end = w.ends in omega arith)
+
+pub returns : goal.returns
+returns c = let a = c.args in
+    put_as (content_at a.text.now a.at c.field_at-f.result c.field_at-f.ensures) c.put_between.ensures
