@@ -1,5 +1,4 @@
 -- `case_lent::all_floats` meets its contract: what is left of the table decides. Assumes nothing.
-use Prim.Native.Nat.{◌-◌}
 use mathlib.Core.Bool.{Bool}
 use mathlib.Core.Path.{refl, sym, ◌∙◌}
 use borrow.Author.Tests.{not-true, not-false}
