@@ -10,7 +10,7 @@ use borrow.Author.Tests.{eq-eqb, eqb-true}
 use lib.Dec.{eqb}
 use lib.ListN.{length, take, drop, drop_of_length-le, length-drop}
 use lib.Seq.{drop-drop, take-length}
-use Rattle.bytes.specs.Bytes.{index_after, index_of, slice}
+use Rattle.text_search.specs.Search.{index_after, index_of, slice}
 use Rattle.case_text.specs.Places.{place_of, Onward, longer, parts}
 use Rattle.case_text.specs.Fields.{rest}
 

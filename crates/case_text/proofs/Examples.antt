@@ -3,7 +3,7 @@ use Prim.Native.Nat.{ℕ}
 use mathlib.Core.Bool.{true, false}
 use mathlib.Core.List.{List, [], ◌∷◌}
 use mathlib.Core.Path.{◌≡◌, refl}
-use Rattle.bytes.specs.Bytes.{index_after, index_of}
+use Rattle.text_search.specs.Search.{index_after, index_of}
 use Rattle.text_entries.specs.Entries.{same_bytes}
 use Rattle.case_text.specs.Places.{longer, parts}
 use Rattle.case_text.specs.Fields.{call_name, rest, words, has_key, value_in, any_field, first_field}

@@ -1,6 +1,6 @@
 -- What the contracts cite of a case line: its call's name and its fields. Assumes nothing.
 use Rattle.std.specs.Prelude.{ℕ, suc, ◌+◌, ◌-◌, ◌≤◌, Bool, true, false, cond, not, ◌&&◌, List, [], ◌∷◌, ◌≡◌, eqb, ltb, length, take, drop}
-use Rattle.bytes.specs.Bytes.{index_of}
+use Rattle.text_search.specs.Search.{index_of}
 use Rattle.text_entries.specs.Entries.{same_bytes}
 use Rattle.case_text.specs.Places.{place_of, parts}
 

@@ -1,6 +1,6 @@
 -- What the contracts cite of places in a text, and of the parts that a byte cuts it into: lines, words and items. Assumes nothing.
 use Rattle.std.specs.Prelude.{ℕ, ◌+◌, ◌≤◌, min, cond, List, [], ◌∷◌, eqb, length, drop}
-use Rattle.bytes.specs.Bytes.{index_of}
+use Rattle.text_search.specs.Search.{index_of}
 
 -- the first place of b at or after `from`, or the text's length where there is none
 unfoldable pub place_of : ℕ → List ℕ → ℕ → ℕ

@@ -8,7 +8,7 @@ use borrow.Author.Tests.{le-leb, lt-leb, leb-true, leb-false}
 use lib.Dec.{eqb, leb}
 use lib.ListN.{length, take, drop, length-drop}
 use lib.Seq.{drop-drop, take-length}
-use Rattle.bytes.specs.Bytes.{slice, index_after, index_of}
+use Rattle.text_search.specs.Search.{slice, index_after, index_of}
 use Rattle.sheet_number_lists.specs.NumberLists.{joined, words}
 use Rattle.sheet_number_lists.specs.Counts.{word_length}
 

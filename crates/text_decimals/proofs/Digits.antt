@@ -1,7 +1,7 @@
 -- The search for a decimal's point, and the turns of the loop over its digits. Assumes nothing.
 use Rattle.std.proofs.Common.{◌≡◌, ℕ, suc, ◌+◌, ◌*◌, ◌^◌, ◌<◌, ◌≤◌, Bool, true, false, cond, ◌&&◌, eqb, ltb, List, [], ◌∷◌, length, get_or, drop, sym, refl, ap, ◌∙◌, zero-add, add-one, arith, lit<, drop_of_length-le, drop-cons, le-ltb, lt-ltb}
 use lib.Seq.{take-length}
-use Rattle.bytes.specs.Bytes.{slice, index_after, index_of}
+use Rattle.text_search.specs.Search.{slice, index_after, index_of}
 use Rattle.text_digits.specs.Digits.{digit, all_digits, worth}
 use Rattle.text_digits.specs.declared.kinds.Number.{Number}
 use Rattle.units.proofs.Tests.{and_false}
