@@ -11,7 +11,12 @@ use Rattle.sheet_names.proofs.fill_columns.Goals as goal
 pub put_columns-requires : goal.put_columns-requires
 put_columns-requires c = let pre = c.requires in
     let long = length-set c.args.offsets.now 0 c.args.bytes in
-    (pre.0, (pre.1.0, (omega arith, omega arith)))
+    record {
+      from_le_to = pre.from_le_to;
+      bytes_in_bounds = pre.bytes_in_bounds;
+      from_in_bounds = omega arith;
+      from_in_bounds_2 = omega arith;
+    }
 
 pub shape_of-offsets : goal.shape_of-offsets
 shape_of-offsets c = appended_offsets c.put_columns.ensures ∙ simp length-set

@@ -18,7 +18,12 @@ put_fields-stop-requires c = let a = c.args in
     let present = appended_present s.invariant.done in
     let offsets_fit_holds = c.requires.from_in_bounds in
     let present_fit = c.requires.from_in_bounds_2 in
-    (first_inside a.records a.width a.from (a.to - a.from) a.text.now a.out.now a.offsets.now a.present.now a.start c.requires.bytes_in_bounds s.stop s.next s.i s.out s.offsets s.present s.invariant c.place_after-first.result c.place_after-first.ensures, (appended_within s.invariant.done, (omega arith, omega arith)))
+    record {
+      at_in_bounds = first_inside a.records a.width a.from (a.to - a.from) a.text.now a.out.now a.offsets.now a.present.now a.start c.requires.bytes_in_bounds s.stop s.next s.i s.out s.offsets s.present s.invariant c.place_after-first.result c.place_after-first.ensures;
+      bytes_in_bounds = appended_within s.invariant.done;
+      count_in_bounds = omega arith;
+      count_in_bounds_2 = omega arith;
+    }
 
 pub loop-i-preserved : goal.loop-i-preserved
 loop-i-preserved c = let a = c.args in

@@ -1,5 +1,4 @@
 -- `sheet_names::put_fields` meets its contract. The loop's invariant is `InFields`: the fields passed are appended. Assumes nothing.
-use Prim.Native.Nat.{◌-◌}
 use native.Mathlib.Omega.{arith}
 use Rattle.sheet_fields.proofs.Bounds.{field_at_within}
 use Rattle.sheet_names.proofs.Appending.{appended_out, appended_offsets, appended_present}
@@ -20,7 +19,11 @@ put_entry-stop-requires c = let a = c.args in
     let offsets_fit_holds = c.requires.count_in_bounds in
     let present_fit = c.requires.count_in_bounds_2 in
     let more = c.loop-i-test.true in
-    (rw c.field_at-f.ensures (w.ordered, let on = w.onward in let end = w.ends in omega arith), (omega arith, omega arith))
+    record {
+      from_le_to = rw c.field_at-f.ensures (w.ordered, let on = w.onward in let end = w.ends in omega arith);
+      entries_in_bounds = omega arith;
+      entries_in_bounds_2 = omega arith;
+    }
 
 pub loop-i-preserved : goal.loop-i-preserved
 loop-i-preserved c = let a = c.args in

@@ -1,5 +1,4 @@
 -- `sheet_names::put_unquoted` meets its contract. The loop's invariant is `Unquoting`: what is left ends the content. Assumes nothing.
-use Prim.Native.Nat.{◌-◌}
 use native.Mathlib.Omega.{arith}
 use lib.ListN.{drop}
 use Rattle.sheet_names.proofs.Unquoting.{unquoting_starts, unquoting_goes_on, unquoting_ends, unquoting_long, step_room, step_some}
