@@ -1,5 +1,6 @@
 // The penalty of a window with a single mismatch.
 #![tactic(auto)]
+
 ghost use Rattle.std.specs.Prelude.{◌≡◌};
 ghost use Rattle.dna_mismatches.specs.Mismatches.{calc_penalty, single_mismatch_penalty};
 

@@ -5,42 +5,13 @@ use lib.IntN.{pos}
 use lib.Ieee.{Float, nan, of_bits, neg}
 use lib.ListN.{get_or}
 use native.Mathlib.Omega.{arith}
-use borrow.Author.Rules.{rules}
 use Rattle.units.specs.Decimals.{decimal}
 use Rattle.dna_mismatches.specs.Mismatches.{hundredths, penalty_table, calc_penalty}
 use Rattle.dna_letters.specs.declared.DnaNucleotideBase.{DnaNucleotideBase}
 use Rattle.dna_letters.specs.declared.DnaNucleotideBase.TheVariants.{A, T, G, C}
 use Rattle.dna_letters.specs.Bases.{index_of}
 use Rattle.dna_letters.proofs.Tables.{index_lt, each_base}
-use Rattle.dna_mismatches.proofs.calc_penalty.Statement.{statement}
-use Rattle.dna_mismatches.proofs.calc_penalty.Tie as tie
-
-index-requires : tie.Need-index-requires
-index-requires c κs = search rules
-
-index-requires-2 : tie.Need-index-requires-2
-index-requires-2 c κs = search rules
-
-index-requires-3 : tie.Need-index-requires-3
-index-requires-3 c κs = search rules
-
-mul-result : tie.Need-overflow-mul-result
-mul-result c = let a = c.before.before.before.args in omega (arith, index_lt a.prior, index_lt a.x, index_lt a.y)
-
-mul-result-2 : tie.Need-overflow-mul-result-2
-mul-result-2 c = let a = c.before.before.before.args in omega (arith, index_lt a.prior, index_lt a.x, index_lt a.y)
-
-mul-result-3 : tie.Need-overflow-mul-result-3
-mul-result-3 c = let a = c.before.before.before.args in omega (arith, index_lt a.prior, index_lt a.x, index_lt a.y)
-
-index-1-result : tie.Need-bounds-1-result
-index-1-result c = let a = c.before.before.before.args in omega (arith, index_lt a.prior, index_lt a.x, index_lt a.y)
-
-index-2-result : tie.Need-bounds-2-result
-index-2-result c = let a = c.before.before.before.args in omega (arith, index_lt a.prior, index_lt a.x, index_lt a.y)
-
-index-3-result : tie.Need-bounds-3-result
-index-3-result c = let a = c.before.before.before.args in omega (arith, index_lt a.prior, index_lt a.x, index_lt a.y)
+use Rattle.dna_mismatches.proofs.calc_penalty.Goals as goal
 
 -- the cell of the floats is the cell of the printed hundredths, rounded once, whatever stands for a missing row
 abbrev Right : (d : List (List Float)) (e : List Float) (p x y : DnaNucleotideBase) → Type 0
@@ -79,23 +50,25 @@ right d e p x y =
     x)
     p
 
-returns : tie.Need-returns
-unfolding of_bits neg decimal penalty_table calc_penalty
-returns c =
-    let a = c.before.before.before.before.args in
-    rw (c.before.before.before.index.ensures, c.before.before.index2.ensures, c.before.index3.ensures) (right _ _ a.prior a.x a.y)
+pub offset_bounds-index : goal.offset_bounds-index
+offset_bounds-index c = let a = c.args in omega (arith, index_lt a.prior, index_lt a.x, index_lt a.y)
 
-pub calc-penalty-spec : {M : Type 1} → statement M
-calc-penalty-spec =
-    tie.close
-    (tie.spec
-    index-requires
-    index-requires-2
-    index-requires-3
-    mul-result
-    mul-result-2
-    mul-result-3
-    index-1-result
-    index-2-result
-    index-3-result
-    returns)
+pub offset_bounds-index-index : goal.offset_bounds-index-index
+offset_bounds-index-index c = let a = c.args in omega (arith, index_lt a.prior, index_lt a.x, index_lt a.y)
+
+pub offset_bounds-index-index-2 : goal.offset_bounds-index-index-2
+offset_bounds-index-index-2 c = let a = c.args in omega (arith, index_lt a.prior, index_lt a.x, index_lt a.y)
+
+pub bounds-index : goal.bounds-index
+bounds-index c = let a = c.args in omega (arith, index_lt a.prior, index_lt a.x, index_lt a.y)
+
+pub bounds-index-2 : goal.bounds-index-2
+bounds-index-2 c = let a = c.args in omega (arith, index_lt a.prior, index_lt a.x, index_lt a.y)
+
+pub bounds-index-3 : goal.bounds-index-3
+bounds-index-3 c = let a = c.args in omega (arith, index_lt a.prior, index_lt a.x, index_lt a.y)
+
+pub returns : goal.returns
+unfolding of_bits neg decimal penalty_table calc_penalty
+returns c = let a = c.args in
+    rw (c.index.ensures, c.index-2.ensures, c.index-3.ensures) (right _ _ a.prior a.x a.y)
