@@ -8,7 +8,7 @@ use Rattle.dna_hundredths.specs.Hundredths.{end_term}
 use Rattle.dna_hundredths.proofs.single_hundredths.Goals as goal
 
 pub returns : goal.returns
-returns c = to_z-of_z w32 _ (record { sfits = c.less.type-inv })
+returns c = to_z-of_z w32 _ (record { sfits = c.less.type_inv })
     ∙ c.less.ensures
     ∙ ap₂ (λ plus less. pos (196 + plus) -ℤ pos less)
     (c.end_term.ensures.0 ∙ ap₂ end_term c.from-first.ensures c.from-last.ensures)
