@@ -1,5 +1,6 @@
 // The system: its sizes and slices, and what is refused of it.
 #![tactic(auto)]
+
 mod sizes;
 mod system;
 
