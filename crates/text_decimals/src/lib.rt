@@ -2,6 +2,7 @@
 //
 // Up to 15 digits are a whole number below 2^53, and a power of ten up to 10^22 is a float too: one division rounds once.
 #![tactic(auto)]
+
 ghost use Rattle.std.specs.Prelude.{◌≡◌, suc, ◌-◌, ◌^◌, ◌<◌, ◌≤◌, true, false, ◌++◌, length, take, drop};
 ghost use Rattle.units.specs.Decimals.{decimal as decimals_decimal};
 ghost use Rattle.text_decimals.specs.Decimals.{whole_length, is_formed, digits_after, over_ten, signed_of, decimal_of, is_minus_infinity, logarithm_of};
