@@ -2,6 +2,8 @@
 //
 // Every public function takes what it is lent, whatever it is, and time linear in what it reads. What stands in the slice behind
 // the front stays.
+#![tactic(auto)]
+
 mod lists;
 mod text;
 mod walk;

@@ -4,6 +4,7 @@
 // place, so a name, a field or an item is a part of the line that it stands in. All take time
 // linear in what they read.
 #![tactic(auto)]
+
 mod fields;
 mod places;
 mod plain;

@@ -4,12 +4,10 @@ use mathlib.Core.Bool.{false, not}
 use mathlib.Core.List.{List, [], ◌∷◌}
 use mathlib.Core.Path.{◌≡◌, refl}
 use native.Mathlib.Omega.{arith}
-use borrow.Author.Rules.{rules}
 use lib.Dec.{eqb}
 use lib.ListN.{length, get_or}
 use Rattle.case_text.specs.Fields.{is_case}
-use Rattle.case_text.proofs.fields.is_case.Statement.{statement}
-use Rattle.case_text.proofs.fields.is_case.Tie as tie
+use Rattle.case_text.proofs.fields.is_case.Goals as goal
 
 no_bytes : (line : List ℕ) → length line ≡ 0 → false ≡ is_case line
 no_bytes [] e = refl
@@ -19,14 +17,8 @@ some_bytes : (line : List ℕ) → 0 < length line → not (eqb (get_or line 0 0
 some_bytes [] h = absurd (omega arith)
 some_bytes (x ∷ xs) h = refl
 
-returns : tie.Need-returns
-returns c = no_bytes c.before.args.line.now c.if1.true
+pub returns-then-line-eq0 : goal.returns-then-line-eq0
+returns-then-line-eq0 c = no_bytes c.args.line.now c.if-line-eq0.true
 
-shared-slice-read-result : tie.Need-shared-slice-read-result
-shared-slice-read-result c = search rules
-
-returns-2 : tie.Need-returns-2
-returns-2 c = some_bytes c.before.before.args.line.now (omega arith)
-
-pub is-case-spec : {M : Type 1} → statement M
-is-case-spec = tie.close (tie.spec returns shared-slice-read-result returns-2)
+pub returns : goal.returns
+returns c = some_bytes c.args.line.now (omega arith)

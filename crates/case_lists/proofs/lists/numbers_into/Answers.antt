@@ -1,0 +1,30 @@
+-- `lists::numbers_into` meets its contract: the invariant is what `Walking` says of the walk. Assumes nothing.
+use Prim.Native.Nat.{◌-◌}
+use native.Mathlib.Omega.{arith}
+use mathlib.Core.Path.{refl}
+use Rattle.case_lists.proofs.Walking.{walking_starts, walking_place, walking_less, walking_goes_on, walking_ends}
+use Rattle.case_lists.proofs.lists.numbers_into.Goals as goal
+
+pub loop-w-init : goal.loop-w-init
+loop-w-init c = walking_starts c.first-w.ensures
+
+pub offset_bounds-out-n : goal.offset_bounds-out-n
+offset_bounds-out-n c = omega (arith, walking_place c.loop-w.invariant c.loop-w-test.true)
+
+pub bounds-out-n : goal.bounds-out-n
+bounds-out-n c = (walking_place c.loop-w.invariant c.loop-w-test.true).0
+
+pub next-w-requires : goal.next-w-requires
+next-w-requires c = (walking_place c.loop-w.invariant c.loop-w-test.true).1
+
+pub loop-w-smaller : goal.loop-w-smaller
+loop-w-smaller c = walking_less c.loop-w.invariant c.loop-w-test.true c.next-w.ensures
+
+pub loop-w-preserved : goal.loop-w-preserved
+loop-w-preserved c = walking_goes_on c.loop-w.invariant c.loop-w-test.true refl c.next-w.ensures
+
+pub shape_of-out : goal.shape_of-out
+shape_of-out c = c.loop-w.invariant.long
+
+pub returns : goal.returns
+returns c = walking_ends c.loop-w.invariant c.loop-w-test.false c.count.ensures
