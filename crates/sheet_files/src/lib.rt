@@ -1,12 +1,14 @@
 // The files of a folder, each read whole into a lent slice.
 #![tactic(auto)]
 
-ghost use Rattle.std.specs.Prelude.{◌≤◌, ◌≡◌, length};
+ghost use Rattle.std.specs.Prelude.{◌≤◌, ◌≡◌, length, is_err};
 ghost use Rattle.io.specs.Counts.{IsPrefixLen, clamp_len};
 ghost use Rattle.text_put.specs.Puts.{Put};
 ghost use Rattle.sheet_files.specs.Paths.{path_of};
 ghost use Rattle.sheet_files.specs.Rooms.{LeavesRoom, NothingUnopened, fails};
 
+use std::fs::Files;
+use std::io::{Read, Result};
 use text_put::put_text;
 
 // What became of a file: whether it could be opened, whether it was read to its end, and how many bytes were read. Where these
@@ -34,6 +36,16 @@ pub fn put_path(folder: &[u8], name: &[u8], path: &mut [u8]) -> usize
     put_text(path, from, name)
 }
 
+// What a read gave, as the C library answers: how many bytes, or a negative number where it failed.
+fn answer_of(got: Result<usize>) -> isize
+    ensures { fails result ≡ is_err got }
+{
+    match got {
+        Ok(bytes) => isize::try_from(bytes).unwrap_or(isize::MAX),
+        Err(_) => -1,
+    }
+}
+
 // What the C library's answer to a read says.
 fn part_of(got: isize, room: &[u8]) -> Part
     ensures failed_value { result.failed ≡ fails got }
@@ -47,15 +59,15 @@ fn part_of(got: isize, room: &[u8]) -> Part
 }
 
 // Reads once.
-fn read_part(file: i32, room: &mut [u8]) -> Part
+fn read_part(file: &mut impl Read, room: &mut [u8]) -> Part
     ensures { result.bytes ≤ length room.old }
 {
-    let got = libc::read(file, room);
+    let got = answer_of(file.read(room));
     part_of(got, room)
 }
 
 // Reads a file to its end, or until the room is full or a read fails.
-fn read_open(file: i32, room: &mut [u8]) -> FileRead
+fn read_open(file: &mut impl Read, room: &mut [u8]) -> FileRead
     ensures prefix_len { IsPrefixLen result.bytes room.new }
     ensures leaves_room { LeavesRoom result.whole result.bytes room.new }
     ensures nothing_unopened { NothingUnopened result.opened result.bytes }
@@ -80,31 +92,28 @@ fn read_open(file: i32, room: &mut [u8]) -> FileRead
 }
 
 // Reads the file of a path.
-fn read_path(path: &[u8], room: &mut [u8]) -> FileRead
+fn read_path(rt: &impl Files, path: &[u8], room: &mut [u8]) -> FileRead
     ensures prefix_len { IsPrefixLen result.bytes room.new }
     ensures leaves_room { LeavesRoom result.whole result.bytes room.new }
     ensures nothing_unopened { NothingUnopened result.opened result.bytes }
 {
-    let file = os::open_read(path);
-    if file < 0 {
-        return FileRead {
+    match host_calls::open_read(rt, path) {
+        Ok(mut file) => read_open(&mut file, room),
+        Err(_) => FileRead {
             opened: false,
             whole: false,
             bytes: 0,
-        };
+        },
     }
-    let read = read_open(file, room);
-    libc::close(file);
-    read
 }
 
 // Reads a file of a folder. A path of 4,096 bytes or more names no file.
-pub fn read_file(folder: &[u8], name: &[u8], room: &mut [u8]) -> FileRead
+pub fn read_file(rt: &impl Files, folder: &[u8], name: &[u8], room: &mut [u8]) -> FileRead
     ensures prefix_len { IsPrefixLen result.bytes room.new }
     ensures leaves_room { LeavesRoom result.whole result.bytes room.new }
     ensures nothing_unopened { NothingUnopened result.opened result.bytes }
 {
     let mut path = io::buffer();
     let end = put_path(folder, name, &mut path);
-    read_path(text_fronts::first_bytes(&path, end), room)
+    read_path(rt, text_fronts::first_bytes(&path, end), room)
 }

@@ -16,8 +16,11 @@ below_zero (pos n) = le-ltb n 0 (omega arith)
 below_zero (negsuc n) = refl
 
 pub returns : goal.returns
-returns c = let a = c.args in
-    let same = to_z-of_z c.ranges.got in (
-      ap (λ (z : ℤ). lt_z z (pos 0)) same ∙ below_zero a.got,
-      (c.count.ensures.value ∙ ap (λ (z : ℤ). clamp_len z (length a.room.now)) same, search rules),
-    )
+returns c =
+    let a = c.args in
+    let same = to_z-of_z c.ranges.got in
+    record {
+      failed_value = ap (λ (z : ℤ). lt_z z (pos 0)) same ∙ below_zero a.got;
+      bytes_value = c.count.ensures.value ∙ ap (λ (z : ℤ). clamp_len z (length a.room.now)) same;
+      bytes_in_bounds = search rules;
+    }

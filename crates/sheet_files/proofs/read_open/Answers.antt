@@ -6,7 +6,17 @@ use Rattle.io.proofs.Counting.{prefix_len_of_le}
 use Rattle.sheet_files.proofs.read_open.Goals as goal
 
 pub returns-then-more-eq0 : goal.returns-then-more-eq0
-returns-then-more-eq0 c = (prefix_len_of_le _ _ (omega arith), (λ h. omega arith, λ h. absurd (true≢false h)))
+returns-then-more-eq0 g c =
+    record {
+      prefix_len = prefix_len_of_le _ _ (omega arith);
+      leaves_room = λ h. omega arith;
+      nothing_unopened = λ h. absurd (true≢false h);
+    }
 
 pub returns : goal.returns
-returns c = (prefix_len_of_le _ _ (omega arith), (λ h. absurd (false≢true h), λ h. absurd (true≢false h)))
+returns g c =
+    record {
+      prefix_len = prefix_len_of_le _ _ (omega arith);
+      leaves_room = λ h. absurd (false≢true h);
+      nothing_unopened = λ h. absurd (true≢false h);
+    }

@@ -5,7 +5,7 @@ use lib.ListN.{length}
 use Rattle.sheet_files.proofs.read_open.Given as goal
 
 abbrev pub invariant-loop-done : goal.invariant-loop-done
-invariant-loop-done l = (length l.room ≡ length l.initial.room) × (l.done ≤ length l.room)
+invariant-loop-done g l = (length l.room ≡ length l.initial.room) × (l.done ≤ length l.room)
 
 abbrev pub decreases-loop-done : goal.decreases-loop-done
-decreases-loop-done l = length l.room - l.done
+decreases-loop-done g l = length l.room - l.done

@@ -1,0 +1,91 @@
+// The program's arguments, and files by the bytes of their paths.
+#![tactic(auto)]
+
+ghost use Rattle.io.specs.Counts.{IsPrefixLen};
+
+use std::env::{Env, FillError};
+use std::fs;
+use std::fs::{File, Files};
+use std::io::{Error, ErrorKind, Result};
+
+// Puts an argument at the start of a lent slice and answers its length, 0 where it is missing or longer than the slice.
+pub fn arg(rt: &impl Env, place: usize, room: &mut [u8]) -> usize
+    ensures { IsPrefixLen result room.new }
+{
+    match rt.arg(place, room) {
+        Ok(n) => n,
+        Err(_) => 0,
+    }
+}
+
+// Whether an argument is there and as long as a lent slice at most.
+pub fn fits(rt: &impl Env, place: usize, room: &mut [u8]) -> bool {
+    match rt.arg(place, room) {
+        Ok(_) => true,
+        Err(_) => false,
+    }
+}
+
+// Whether no argument stands at a place.
+fn is_missing(rt: &impl Env, place: usize) -> bool {
+    let mut room = [0u8; 1];
+    match rt.arg(place, &mut room) {
+        Ok(_) => false,
+        Err(FillError::NotPresent) => true,
+        Err(FillError::TooLong) => false,
+    }
+}
+
+// How many arguments the program was started with, its own name among them.
+pub fn arg_count(rt: &impl Env) -> usize {
+    for i in 0..usize::MAX {
+        if is_missing(rt, i) {
+            return i;
+        }
+    }
+    usize::MAX
+}
+
+// The error of a path that is no text, which names no file here.
+fn no_path() -> Error {
+    Error::from(ErrorKind::InvalidInput)
+}
+
+// Opens a file for reading.
+pub fn open_read<R: Files>(rt: &R, path: &[u8]) -> Result<R::File> {
+    match str::from_utf8(path) {
+        Ok(text) => File::open(rt, text),
+        Err(_) => Err(no_path()),
+    }
+}
+
+// Creates a file that is not there yet, for writing.
+pub fn create<R: Files>(rt: &R, path: &[u8]) -> Result<R::File> {
+    match str::from_utf8(path) {
+        Ok(text) => File::create_new(rt, text),
+        Err(_) => Err(no_path()),
+    }
+}
+
+// Gives a file another name, in place of a file that had it.
+pub fn rename(rt: &impl Files, from: &[u8], to: &[u8]) -> Result<()> {
+    match str::from_utf8(from) {
+        Ok(old) => rename_text(rt, old, to),
+        Err(_) => Err(no_path()),
+    }
+}
+
+fn rename_text(rt: &impl Files, from: &str, to: &[u8]) -> Result<()> {
+    match str::from_utf8(to) {
+        Ok(new) => fs::rename(rt, from, new),
+        Err(_) => Err(no_path()),
+    }
+}
+
+// Takes a file away.
+pub fn remove(rt: &impl Files, path: &[u8]) -> Result<()> {
+    match str::from_utf8(path) {
+        Ok(text) => fs::remove_file(rt, text),
+        Err(_) => Err(no_path()),
+    }
+}
