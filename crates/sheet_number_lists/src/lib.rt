@@ -2,6 +2,7 @@
 //
 // The functions take what they are lent, whatever it is, read each byte at most three times and copy none.
 #![tactic(auto)]
+
 mod lists;
 mod plain;
 
