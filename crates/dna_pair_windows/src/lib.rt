@@ -1,4 +1,6 @@
 // The windows of two sequences written letter over letter: steps where both letters match, penalties where not, loops when they close.
+#![tactic(auto)]
+
 ghost use Rattle.std.specs.Prelude.{◌≡◌, ◌<◌, ◌≤◌, length};
 ghost use Rattle.units.specs.Limits.{most_letters};
 ghost use Rattle.dna_loops.specs.Loops.{loop_penalty};
