@@ -1,4 +1,6 @@
 // The energies of two sequences written letter over letter.
+#![tactic(auto)]
+
 ghost use Rattle.std.specs.Prelude.{◌≡◌};
 ghost use Rattle.units.specs.Refusals.{Prints};
 ghost use Rattle.units.specs.Answers.{base_energy_answer, base_energy_refusal};
