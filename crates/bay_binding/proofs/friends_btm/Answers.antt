@@ -1,10 +1,10 @@
 -- `bay_binding::friends_btm` meets its contract. The invariant: the set has those below t that may lie on the bay. Assumes nothing.
-use Prim.Native.Nat.{◌-◌}
 use mathlib.Core.Path.{◌≡◌, ◌∙◌, ap}
 use native.Mathlib.Omega.{arith}
 use Rattle.units.specs.Limits.{most_strands}
 use Rattle.sets.proofs.Build.{build_none, build_more}
 use Rattle.sets.specs.Set.{word}
+use Rattle.bay_binding.proofs.friends_btm.Invariants.{may}
 use Rattle.bay_binding.proofs.friends_btm.Goals as goal
 
 pub loop-t-init : goal.loop-t-init

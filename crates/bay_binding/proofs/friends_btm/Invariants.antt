@@ -11,7 +11,7 @@ use Rattle.sets.specs.Set.{word}
 use Rattle.bay_binding.proofs.friends_btm.Given as goal
 
 -- what is asked of each number
-abbrev may : (strands glues : ℕ) → (strand_glues : List ℕ) → (delta_g entropy : List Float) → (glue : ℕ) → ℕ → Bool
+abbrev pub may : (strands glues : ℕ) → (strand_glues : List ℕ) → (delta_g entropy : List Float) → (glue : ℕ) → ℕ → Bool
 may strands glues strand_glues delta_g entropy glue t = ltb t strands && may_lie strand_glues delta_g entropy glues glue t
 
 abbrev pub invariant-loop-t : goal.invariant-loop-t

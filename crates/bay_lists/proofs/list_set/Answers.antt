@@ -1,5 +1,5 @@
 -- `bay_lists::list_set` meets its contract. The invariant: the set is of what the first i numbers name. Assumes nothing.
-use Prim.Native.Nat.{◌+◌, ◌-◌}
+use Prim.Native.Nat.{◌+◌}
 use mathlib.Core.Path.{◌∙◌, sym, ap}
 use native.Mathlib.Omega.{arith}
 use mathlib.Core.Bool.{false, ◌||◌}

@@ -1,8 +1,6 @@
 -- `bay_lists::offsets_shaped` meets its contract, test by test. Assumes nothing.
-use mathlib.Core.Bool.{true}
 use mathlib.Core.Path.{sym, ◌∙◌}
 use borrow.Author.Tests.{not-true, not-false, eq-eqb, ne_eqb}
-use Rattle.bay_lists.specs.Lists.{has_lists}
 use Rattle.bay_lists.proofs.offsets_shaped.Goals as goal
 
 pub returns-then-not-has_lists : goal.returns-then-not-has_lists

@@ -9,4 +9,4 @@ returns-then-list-eq0 c = let a = c.args in
 
 pub returns : goal.returns
 returns c = let a = c.args in
-    kept_named a.set (list_of (by_offsets a.offsets.now a.tiles.now) a.bay) c.bay_list-list.ensures c.if-list-eq0.false c.List-set_of_Decides.ensures c.both.ensures
+    kept_named a.set (list_of (by_offsets a.offsets.now a.tiles.now) a.bay) c.bay_list-list.ensures c.if-list-eq0.false c.list_set.ensures c.both.ensures
