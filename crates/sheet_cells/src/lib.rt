@@ -1,4 +1,6 @@
 // A sheet over a grid of bays: a test of all of its fields, field by field from the front.
+#![tactic(auto)]
+
 ghost use Rattle.std.specs.Prelude.{◌≡◌, ◌≤◌};
 ghost use Rattle.units.specs.Limits.{most_side};
 ghost use Rattle.sheet_cells.specs.Checks.{sheet_check};
