@@ -1,5 +1,5 @@
 -- `name_glue_tables::fill_strands` meets its contract. The invariant: the first s strands are written, and the rest is as it was. Assumes nothing.
-use Prim.Native.Nat.{◌+◌, ◌*◌, ◌-◌, ◌≤◌}
+use Prim.Native.Nat.{◌*◌, ◌-◌, ◌≤◌}
 use mathlib.Core.Path.{◌≡◌}
 use mathlib.Core.List.{◌++◌}
 use lib.ListN.{drop}

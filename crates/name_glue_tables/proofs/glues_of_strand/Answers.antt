@@ -8,7 +8,12 @@ pub returns-then-s-eq0 : goal.returns-then-s-eq0
 returns-then-s-eq0 c = rw c.if-s-eq0.true
 
 pub five_from-requires : goal.five_from-requires
-five_from-requires c = (c.requires.glues_readable, (c.requires.searchable, omega (arith, c.requires.s_in_bounds, c.if-s-eq0.false)))
+five_from-requires c =
+    record {
+      glues_readable = c.requires.glues_readable;
+      searchable = c.requires.searchable;
+      i_in_bounds = omega (arith, c.requires.s_in_bounds, c.if-s-eq0.false);
+    }
 
 pub returns : goal.returns
 returns c = c.five_from.ensures ∙ sym (strand_above _ _ _ _ c.if-s-eq0.false)

@@ -1,5 +1,5 @@
 -- `name_new_bases::collect` meets its contract. The invariant: the list holds the bases of the first i entries. Assumes nothing.
-use Prim.Native.Nat.{◌+◌, ◌-◌}
+use Prim.Native.Nat.{◌+◌}
 use mathlib.Core.Path.{◌≡◌, refl, ◌∙◌, subst}
 use native.Mathlib.Numerals.{add-one-le}
 use native.Mathlib.Omega.{arith}
@@ -13,10 +13,15 @@ pub loop-i-init : goal.loop-i-init
 loop-i-init c = (omega arith, rw c.requires.bases_value (begins ((glue_names c.args.text.now c.args.offsets.now c.args.present.now))), refl)
 
 pub get_or_generate-requires : goal.get_or_generate-requires
-get_or_generate-requires c = (c.requires.glues_readable, (c.loop-i-test.true, c.loop-i.invariant.1))
+get_or_generate-requires c =
+    record {
+      glues_readable = c.requires.glues_readable;
+      i_in_bounds = c.loop-i-test.true;
+      holds = c.loop-i.invariant.1;
+    }
 
 pub shape_of-bases-in-Refused : goal.shape_of-bases-in-Refused
-shape_of-bases-in-Refused c = c.get_or_generate.auto.1.1.1.0 ∙ c.loop-i.invariant.2
+shape_of-bases-in-Refused c = c.get_or_generate.auto.bases ∙ c.loop-i.invariant.2
 
 pub returns-in-Refused : goal.returns-in-Refused
 returns-in-Refused c = rw (← c.in-Refused.is) (stops ((glue_names c.args.text.now c.args.offsets.now c.args.present.now)) (c.loop-i.i + 1) _ c.get_or_generate.ensures c.in-Refused.is (add-one-le c.loop-i-test.true))
@@ -25,7 +30,7 @@ pub loop-i-preserved : goal.loop-i-preserved
 loop-i-preserved c = (
   add-one-le c.loop-i-test.true,
   goes_on ((glue_names c.args.text.now c.args.offsets.now c.args.present.now)) (c.loop-i.i + 1) c.get_or_generate.ensures c.in-Count.is,
-  c.get_or_generate.auto.1.1.1.0 ∙ c.loop-i.invariant.2,
+  c.get_or_generate.auto.bases ∙ c.loop-i.invariant.2,
 )
 
 pub shape_of-bases : goal.shape_of-bases

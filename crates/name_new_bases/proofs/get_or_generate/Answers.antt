@@ -9,7 +9,12 @@ use Rattle.name_new_bases.proofs.Collecting.{searchable, kept, full, more, room}
 use Rattle.name_new_bases.proofs.get_or_generate.Goals as goal
 
 pub is_new-requires : goal.is_new-requires
-is_new-requires c = (c.requires.glues_readable, (searchable ((glue_names c.args.text.now c.args.offsets.now c.args.present.now)) c.args.i c.args.count c.args.bases.now c.requires.glues_readable (le_of_lt c.requires.i_in_bounds) c.requires.holds, c.requires.i_in_bounds))
+is_new-requires c =
+    record {
+      glues_readable = c.requires.glues_readable;
+      searchable = searchable ((glue_names c.args.text.now c.args.offsets.now c.args.present.now)) c.args.i c.args.count c.args.bases.now c.requires.glues_readable (le_of_lt c.requires.i_in_bounds) c.requires.holds;
+      i_in_bounds = c.requires.i_in_bounds;
+    }
 
 pub returns-then-not-is_new : goal.returns-then-not-is_new
 returns-then-not-is_new c = kept ((glue_names c.args.text.now c.args.offsets.now c.args.present.now)) c.args.i c.args.count c.args.bases.now c.requires.holds (sym c.is_new.ensures ∙ not-true _ c.if-not-is_new.true-raw)

@@ -8,22 +8,22 @@ pub returns-then-not-sizes_in_range : goal.returns-then-not-sizes_in_range
 returns-then-not-sizes_in_range c = rw (fails c.sizes_in_range.ensures c.if-not-sizes_in_range.true-raw) c.refused.ensures
 
 pub overflow_mul-bays : goal.overflow_mul-bays
-overflow_mul-bays c = record { fits = omega (arith, ((in_sizes _ _ _ (holds c.sizes_in_range.ensures c.if-not-sizes_in_range.false-raw))).most_bays) }
+overflow_mul-bays c = record { fits = omega (arith, (in_sizes c.args.rows c.args.cols c.args.strands (holds c.sizes_in_range.ensures c.if-not-sizes_in_range.false-raw)).most_bays) }
 
 pub overflow_sub-entries : goal.overflow_sub-entries
-overflow_sub-entries c = ((in_sizes _ _ _ (holds c.sizes_in_range.ensures c.if-not-sizes_in_range.false-raw))).one_strand
+overflow_sub-entries c = (in_sizes c.args.rows c.args.cols c.args.strands (holds c.sizes_in_range.ensures c.if-not-sizes_in_range.false-raw)).one_strand
 
 pub overflow_mul-entries : goal.overflow_mul-entries
-overflow_mul-entries c = record { fits = omega (arith, ((in_sizes _ _ _ (holds c.sizes_in_range.ensures c.if-not-sizes_in_range.false-raw))).most_strands_holds) }
+overflow_mul-entries c = record { fits = omega (arith, (in_sizes c.args.rows c.args.cols c.args.strands (holds c.sizes_in_range.ensures c.if-not-sizes_in_range.false-raw)).most_strands_holds) }
 
 pub overflow_add-entries : goal.overflow_add-entries
-overflow_add-entries c = record { fits = omega (arith, ((in_sizes _ _ _ (holds c.sizes_in_range.ensures c.if-not-sizes_in_range.false-raw))).most_strands_holds, ((in_sizes _ _ _ (holds c.sizes_in_range.ensures c.if-not-sizes_in_range.false-raw))).most_bays) }
+overflow_add-entries c = record { fits = omega (arith, (in_sizes c.args.rows c.args.cols c.args.strands (holds c.sizes_in_range.ensures c.if-not-sizes_in_range.false-raw)).most_strands_holds, (in_sizes c.args.rows c.args.cols c.args.strands (holds c.sizes_in_range.ensures c.if-not-sizes_in_range.false-raw)).most_bays) }
 
 pub entries_sized-counted-requires : goal.entries_sized-counted-requires
-entries_sized-counted-requires c = omega (arith, ((in_sizes _ _ _ (holds c.sizes_in_range.ensures c.if-not-sizes_in_range.false-raw))).most_strands_holds, ((in_sizes _ _ _ (holds c.sizes_in_range.ensures c.if-not-sizes_in_range.false-raw))).most_bays)
+entries_sized-counted-requires c = omega (arith, (in_sizes c.args.rows c.args.cols c.args.strands (holds c.sizes_in_range.ensures c.if-not-sizes_in_range.false-raw)).most_strands_holds, (in_sizes c.args.rows c.args.cols c.args.strands (holds c.sizes_in_range.ensures c.if-not-sizes_in_range.false-raw)).most_bays)
 
 pub tables_fit-requires : goal.tables_fit-requires
-tables_fit-requires c = ((in_sizes _ _ _ (holds c.sizes_in_range.ensures c.if-not-sizes_in_range.false-raw))).most_strands_holds
+tables_fit-requires c = (in_sizes c.args.rows c.args.cols c.args.strands (holds c.sizes_in_range.ensures c.if-not-sizes_in_range.false-raw)).most_strands_holds
 
 pub returns-then-not-counted-tables_fit : goal.returns-then-not-counted-tables_fit
 returns-then-not-counted-tables_fit c = rw (

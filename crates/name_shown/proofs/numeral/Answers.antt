@@ -10,4 +10,8 @@ pub slice_bounds-result-start : goal.slice_bounds-result-start
 slice_bounds-result-start c = omega (arith, c.numeral_start-start.ensures.1)
 
 pub returns : goal.returns
-returns c = rw (← c.numeral_start-start.ensures.0) (refl, refl)
+returns c = rw (← c.numeral_start-start.ensures.0)
+    record {
+      bytes = refl;
+      place = refl;
+    }
