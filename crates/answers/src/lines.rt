@@ -5,7 +5,11 @@ use crate::calls::answer;
 use case_answer_lines::put_text;
 use case_field_reads::at_most;
 use case_text::{first_bytes, is_case, line_end};
-use libc::STDOUT_FILENO;
+use std::alloc::Global;
+use std::io::Read;
+
+// Standard output's number.
+const STDOUT: i32 = 1;
 
 // How many bytes at the front of the room are the begin of a line, and whether the file goes on.
 #[derive(Clone, Copy)]
@@ -17,7 +21,7 @@ pub(crate) struct Held {
 // Writes a line that stands in `out`.
 fn write_line(out: &mut [u8], at: usize) {
     let end = put_text(out, at, b"\n");
-    io::write_all(STDOUT_FILENO, first_bytes(out, end));
+    io::write_all(STDOUT, first_bytes(out, end));
 }
 
 // Writes the answer to one line, if it is a case. No answer is longer than the room for it.
@@ -68,14 +72,16 @@ fn to_front(room: &mut [u8], from: usize, to: usize) -> usize
 }
 
 // One read; 0 bytes at the end of the file, and where it fails, which is told.
-fn read_once(fd: i32, name: &[u8], room: &mut [u8]) -> usize
+fn read_once(alloc: Global, file: &mut impl Read, name: &[u8], room: &mut [u8]) -> usize
     ensures { result ≤ length room.old }
 {
-    let got = libc::read(fd, room);
-    if got < 0 {
-        os::fail(name);
+    match file.read(room) {
+        Ok(bytes) => bytes,
+        Err(error) => {
+            host_calls::fail(alloc, name, error);
+            0
+        }
     }
-    io::count(got, room)
 }
 
 // Answers the lines that end among the first bytes of the room. Where the room is full of one line, that is told, and the rest of the line is
@@ -95,14 +101,15 @@ fn answer_held(end: usize, room: &mut [u8], out: &mut [u8]) -> usize {
 
 // Reads once behind the begin of a line, and answers what is then there. The last line of a file may lack its end.
 pub(crate) fn answer_some(
-    fd: i32,
+    alloc: Global,
+    file: &mut impl Read,
     name: &[u8],
     held: Held,
     room: &mut [u8],
     out: &mut [u8],
 ) -> Held {
     let at = at_most(held.count, room.len());
-    let got = read_once(fd, name, &mut room[at..]);
+    let got = read_once(alloc, file, name, &mut room[at..]);
     if got == 0 {
         answer_line(first_bytes(room, at), out);
         return Held {

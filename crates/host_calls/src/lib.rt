@@ -3,6 +3,7 @@
 
 ghost use Rattle.io.specs.Counts.{IsPrefixLen};
 
+use std::alloc::Global;
 use std::env::{Env, FillError};
 use std::fs;
 use std::fs::{File, Files};
@@ -88,4 +89,28 @@ pub fn remove(rt: &impl Files, path: &[u8]) -> Result<()> {
         Ok(text) => fs::remove_file(rt, text),
         Err(_) => Err(no_path()),
     }
+}
+
+// Where the words for an error end: what std puts behind them is the error's number.
+fn words_length(text: &str) -> usize {
+    match text.find(" (os error ") {
+        Some(place) => place,
+        None => text.len(),
+    }
+}
+
+// Writes a line to standard error: what failed, a colon and the system's words for it.
+pub fn fail(alloc: Global, what: &[u8], error: Error) {
+    match format!(in alloc; "{error}") {
+        Ok(text) => fail_in_words(what, text.as_str()),
+        Err(_) => fail_in_words(what, "out of memory"),
+    }
+}
+
+fn fail_in_words(what: &[u8], text: &str) {
+    let words = text_fronts::first_bytes(text.as_bytes(), words_length(text));
+    io::write_all(2, what);
+    io::write_all(2, b": ");
+    io::write_all(2, words);
+    io::write_all(2, b"\n");
 }

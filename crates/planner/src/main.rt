@@ -1,4 +1,5 @@
 // Plans folders of sheets: the layout of least energy of each, and why every bay holds what it holds.
+#![tactic(auto)]
 mod drawing;
 mod files;
 mod folder;
