@@ -1,6 +1,8 @@
 // Lists and texts in an answer line. docs/CASES.md says what they look like.
 //
 // Each function puts them as `text_put` puts a text: at a place of a lent slice, as far as it has room, answering the next place.
+#![tactic(auto)]
+
 mod coded;
 mod lists;
 

@@ -1,4 +1,6 @@
 // The values of a case line's fields by their keys. A missing field is unreadable, unless the caller has a value for it.
+#![tactic(auto)]
+
 ghost use Rattle.std.specs.Prelude.{◌≡◌, ◌^◌, length};
 ghost use Rattle.text_digits.specs.Digits.{worth, is_number, number_of, is_float, float_in, float_of};
 ghost use Rattle.case_text.specs.Fields.{words, first_field};

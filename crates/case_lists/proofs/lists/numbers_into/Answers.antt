@@ -1,5 +1,4 @@
 -- `lists::numbers_into` meets its contract: the invariant is what `Walking` says of the walk. Assumes nothing.
-use Prim.Native.Nat.{◌-◌}
 use native.Mathlib.Omega.{arith}
 use mathlib.Core.Path.{refl}
 use Rattle.case_lists.proofs.Walking.{walking_starts, walking_place, walking_less, walking_goes_on, walking_ends}
@@ -27,4 +26,4 @@ pub shape_of-out : goal.shape_of-out
 shape_of-out c = c.loop-w.invariant.long
 
 pub returns : goal.returns
-returns c = walking_ends c.loop-w.invariant c.loop-w-test.false c.count.ensures
+returns c = let p = walking_ends c.loop-w.invariant c.loop-w-test.false c.count.ensures in record { value = p.0; out_after = p.1 }

@@ -19,14 +19,19 @@ shape_of-out-then-out-n c = c.loop-at.invariant.1.long
 pub returns-then-out-n : goal.returns-then-out-n
 returns-then-out-n c = let a = c.args in
     let ws = signs a.value.now in
-    let f : let a = c.args in let e = c.sign_end-end.result in Filling is_sign byte_of (signs a.value.now) a.out.now (take (e - c.loop-at.at) (drop c.loop-at.at a.value.now) ∷ signs (drop e a.value.now)) c.loop-at.out c.loop-at.n = rw c.sign_end-end.ensures.split at c.loop-at.invariant.1 in
+    let e = c.sign_end-end.result in
+    let f : Filling is_sign byte_of (signs a.value.now) a.out.now (take (e - c.loop-at.at) (drop c.loop-at.at a.value.now) ∷ signs (drop e a.value.now)) c.loop-at.out c.loop-at.n = rw c.sign_end-end.ensures.split at c.loop-at.invariant.1 in
     record {
-      value = filling_is_full is_sign byte_of ws a.out.now c.loop-at.out c.loop-at.n _ _ f ((omega (arith, c.loop-at.invariant.1.long, c.if-out-n.true)));
-      out_after = filled_full is_sign byte_of ws a.out.now c.loop-at.out c.loop-at.n _ _ f ((omega (arith, c.loop-at.invariant.1.long, c.if-out-n.true)));
+      value = filling_is_full is_sign byte_of ws a.out.now c.loop-at.out c.loop-at.n _ _ f (omega (arith, c.loop-at.invariant.1.long, c.if-out-n.true));
+      out_after = filled_full is_sign byte_of ws a.out.now c.loop-at.out c.loop-at.n _ _ f (omega (arith, c.loop-at.invariant.1.long, c.if-out-n.true));
     }
 
 pub overflow_cast-out : goal.overflow_cast-out
-overflow_cast-out c = omega (arith, (let r : let part = take (c.sign_end-end.result - c.loop-at.at) (drop c.loop-at.at c.args.value.now) in (is_sign part ≡ true) × (byte_of part ≡ c.in-Of.b) = sign_of_lem _ c.in-Of.b (sym c.sign.ensures ∙ c.in-Of.is) in let same = r.1 in omega (arith, sign_small _ r.0)))
+overflow_cast-out c =
+    let part = take (c.sign_end-end.result - c.loop-at.at) (drop c.loop-at.at c.args.value.now) in
+    let r : (is_sign part ≡ true) × (byte_of part ≡ c.in-Of.b) = sign_of_lem _ c.in-Of.b (sym c.sign.ensures ∙ c.in-Of.is) in
+    let same = r.1 in
+    omega (arith, sign_small part r.0)
 
 pub shape_of-out-in-Unreadable : goal.shape_of-out-in-Unreadable
 shape_of-out-in-Unreadable c = c.loop-at.invariant.1.long
@@ -35,7 +40,8 @@ pub returns-in-Unreadable : goal.returns-in-Unreadable
 returns-in-Unreadable c = let a = c.args in
     let ws = signs a.value.now in
     let bad = sign_not _ (sym c.sign.ensures ∙ c.in-Unreadable.is) in
-    let f : let a = c.args in let e = c.sign_end-end.result in Filling is_sign byte_of (signs a.value.now) a.out.now (take (e - c.loop-at.at) (drop c.loop-at.at a.value.now) ∷ signs (drop e a.value.now)) c.loop-at.out c.loop-at.n = rw c.sign_end-end.ensures.split at c.loop-at.invariant.1 in
+    let e = c.sign_end-end.result in
+    let f : Filling is_sign byte_of (signs a.value.now) a.out.now (take (e - c.loop-at.at) (drop c.loop-at.at a.value.now) ∷ signs (drop e a.value.now)) c.loop-at.out c.loop-at.n = rw c.sign_end-end.ensures.split at c.loop-at.invariant.1 in
     record {
       value = filling_stops is_sign byte_of ws a.out.now c.loop-at.out c.loop-at.n _ _ f bad;
       out_after = filled_before is_sign byte_of ws a.out.now c.loop-at.out c.loop-at.n _ _ f bad;
