@@ -1,4 +1,6 @@
 // The energies of sequences: one strand with its perfect fit, or two strands written letter over letter.
+#![tactic(auto)]
+
 mod hundredths;
 mod single;
 
