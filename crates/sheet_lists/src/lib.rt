@@ -1,4 +1,6 @@
 // The lists of a tested sheet, written out: where each begins, and the numbers of all.
+#![tactic(auto)]
+
 ghost use Rattle.std.specs.Prelude.{◌≡◌, true, ◌+◌, ◌-◌, ◌≤◌, length, take, drop};
 ghost use Rattle.text_put.specs.Puts.{Put};
 ghost use Rattle.sheet_number_lists.specs.NumberLists.{list_in};
