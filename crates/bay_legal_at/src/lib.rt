@@ -1,4 +1,6 @@
 // The legal strands of one bay, as a set.
+#![tactic(auto)]
+
 mod seeds;
 mod sets_at;
 

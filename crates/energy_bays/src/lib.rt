@@ -1,4 +1,6 @@
 // The energies of bays and of pairs of neighbours, in units of R·T.
+#![tactic(auto)]
+
 ghost use Rattle.std.specs.Prelude.{◌≡◌};
 ghost use Rattle.energy_bays.specs.Energies.{bay_energy, empty_pair, edge_energy, is_bad};
 
