@@ -2,11 +2,13 @@
 use crate::messages::{begin, finish, say};
 use name_strands::NUMERALS;
 use plan_layout_svg::put_svg;
+use std::io::Write;
 use text_fronts::first_bytes;
 use text_put::put_text;
 
 // Draws a layout into the file that the word at a place names; place 0 asks for none.
 pub(crate) fn draw(
+    rt: &HostRuntime,
     folder: &[u8],
     place: usize,
     rows: usize,
@@ -43,17 +45,17 @@ pub(crate) fn draw(
         return false;
     }
     let mut file = io::buffer();
-    let n = os::arg(place, &mut file);
-    write_file(folder, first_bytes(&file, n), first_bytes(page, end))
+    let n = host_calls::arg(rt, place, &mut file);
+    write_file(rt, folder, first_bytes(&file, n), first_bytes(page, end))
 }
 
 // Writes a file under another name first, so that under its own it is whole or what it was.
-fn write_file(folder: &[u8], file: &[u8], text: &[u8]) -> bool {
+fn write_file(rt: &HostRuntime, folder: &[u8], file: &[u8], text: &[u8]) -> bool {
     let mut partial = [0u8; 4200];
     let name = put_text(&mut partial, 0, file);
     let end = put_text(&mut partial, name, b".partial");
     let own = first_bytes(&partial, end);
-    if !write_new(own, text) {
+    if !write_new(rt, own, text) {
         say_unwritten(
             folder,
             own,
@@ -61,8 +63,8 @@ fn write_file(folder: &[u8], file: &[u8], text: &[u8]) -> bool {
         );
         return false;
     }
-    if os::rename(own, file) != 0 {
-        os::unlink(own);
+    if host_calls::rename(rt, own, file).is_err() {
+        let _ = host_calls::remove(rt, own);
         say_unwritten(folder, file, b" cannot be written");
         return false;
     }
@@ -70,17 +72,17 @@ fn write_file(folder: &[u8], file: &[u8], text: &[u8]) -> bool {
 }
 
 // Makes a file that is not there yet; one that could not be written whole is taken away.
-fn write_new(file: &[u8], text: &[u8]) -> bool {
-    let descriptor = os::create(file);
-    if descriptor < 0 {
-        return false;
+fn write_new(rt: &HostRuntime, file: &[u8], text: &[u8]) -> bool {
+    match host_calls::create(rt, file) {
+        Ok(mut made) => {
+            let whole = made.write_all(text).is_ok();
+            if !whole {
+                let _ = host_calls::remove(rt, file);
+            }
+            whole
+        }
+        Err(_) => false,
     }
-    let whole = io::write_all(descriptor, text);
-    libc::close(descriptor);
-    if !whole {
-        os::unlink(file);
-    }
-    whole
 }
 
 // Says that a file could not be written.

@@ -5,15 +5,13 @@ use text_fronts::first_bytes;
 use text_put::put_text;
 
 // Whether a folder can be opened, which a plain file cannot be as one.
-pub(crate) fn is_folder_there(folder: &[u8]) -> bool {
+pub(crate) fn is_folder_there(rt: &HostRuntime, folder: &[u8]) -> bool {
     let mut path = [0u8; 4200];
     let end = put_path(folder, b".", &mut path);
-    let file = os::open_read(first_bytes(&path, end));
-    if file < 0 {
+    if host_calls::open_read(rt, first_bytes(&path, end)).is_err() {
         say(folder, b"there is no such folder, or it cannot be read");
         return false;
     }
-    libc::close(file);
     true
 }
 

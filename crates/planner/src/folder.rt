@@ -7,54 +7,76 @@ use text_fronts::first_bytes;
 use text_plain::without_mark;
 
 // Plans a folder; the answer is whether it could be planned. Where not, one sentence stands on standard error and nothing on standard output.
-pub(crate) fn plan_folder(folder: &[u8], wish: Wish) -> bool {
-    if !is_folder_there(folder) {
+pub(crate) fn plan_folder(rt: &HostRuntime, folder: &[u8], wish: Wish) -> bool {
+    if !is_folder_there(rt, folder) {
         return false;
     }
-    read_strands(folder, wish)
+    read_strands(rt, folder, wish)
 }
 
-fn read_strands(folder: &[u8], wish: Wish) -> bool {
+fn read_strands(rt: &HostRuntime, folder: &[u8], wish: Wish) -> bool {
     let mut room = [0u8; 65536];
-    let read = read_file(folder, b"strands.csv", &mut room);
+    let read = read_file(rt, folder, b"strands.csv", &mut room);
     let text = first_bytes(&room, read.bytes);
     if !is_sheet(folder, b"strands.csv", read, 65536, text) {
         return false;
     }
-    read_scaffold(folder, wish, without_mark(text))
+    read_scaffold(rt, folder, wish, without_mark(text))
 }
 
-fn read_scaffold(folder: &[u8], wish: Wish, strands: &[u8]) -> bool {
+fn read_scaffold(rt: &HostRuntime, folder: &[u8], wish: Wish, strands: &[u8]) -> bool {
     let mut room = [0u8; 65536];
-    let read = read_file(folder, b"scaffold.csv", &mut room);
+    let read = read_file(rt, folder, b"scaffold.csv", &mut room);
     let text = first_bytes(&room, read.bytes);
     if !is_sheet(folder, b"scaffold.csv", read, 65536, text) {
         return false;
     }
-    read_energies(folder, wish, strands, without_mark(text))
+    read_energies(rt, folder, wish, strands, without_mark(text))
 }
 
-fn read_energies(folder: &[u8], wish: Wish, strands: &[u8], scaffold: &[u8]) -> bool {
+fn read_energies(
+    rt: &HostRuntime,
+    folder: &[u8],
+    wish: Wish,
+    strands: &[u8],
+    scaffold: &[u8],
+) -> bool {
     let mut room = [0u8; 131072];
-    let read = read_file(folder, b"energies.csv", &mut room);
+    let read = read_file(rt, folder, b"energies.csv", &mut room);
     let text = first_bytes(&room, read.bytes);
     if !is_sheet(folder, b"energies.csv", read, 131072, text) {
         return false;
     }
-    read_seeds(folder, wish, strands, scaffold, without_mark(text))
+    read_seeds(rt, folder, wish, strands, scaffold, without_mark(text))
 }
 
-fn read_seeds(folder: &[u8], wish: Wish, strands: &[u8], scaffold: &[u8], keys: &[u8]) -> bool {
+fn read_seeds(
+    rt: &HostRuntime,
+    folder: &[u8],
+    wish: Wish,
+    strands: &[u8],
+    scaffold: &[u8],
+    keys: &[u8],
+) -> bool {
     let mut room = [0u8; 65536];
-    let read = read_file(folder, b"seeds.csv", &mut room);
+    let read = read_file(rt, folder, b"seeds.csv", &mut room);
     let text = first_bytes(&room, read.bytes);
     if !is_sheet(folder, b"seeds.csv", read, 65536, text) {
         return false;
     }
-    read_temperature(folder, wish, strands, scaffold, keys, without_mark(text))
+    read_temperature(
+        rt,
+        folder,
+        wish,
+        strands,
+        scaffold,
+        keys,
+        without_mark(text),
+    )
 }
 
 fn read_temperature(
+    rt: &HostRuntime,
     folder: &[u8],
     wish: Wish,
     strands: &[u8],
@@ -63,12 +85,13 @@ fn read_temperature(
     seeds: &[u8],
 ) -> bool {
     let mut room = [0u8; 4096];
-    let read = read_file(folder, b"temperature.csv", &mut room);
+    let read = read_file(rt, folder, b"temperature.csv", &mut room);
     let text = first_bytes(&room, read.bytes);
     if !is_sheet(folder, b"temperature.csv", read, 4096, text) {
         return false;
     }
     read_constraints(
+        rt,
         folder,
         wish,
         strands,
@@ -81,6 +104,7 @@ fn read_temperature(
 
 // The register's sheet is taken as it is: that it is empty or no text, or that a byte order mark stands in front, is told as an error of a field.
 fn read_constraints(
+    rt: &HostRuntime,
     folder: &[u8],
     wish: Wish,
     strands: &[u8],
@@ -90,11 +114,12 @@ fn read_constraints(
     temperature: &[u8],
 ) -> bool {
     let mut room = [0u8; 262144];
-    let read = read_file(folder, b"constraints.csv", &mut room);
+    let read = read_file(rt, folder, b"constraints.csv", &mut room);
     if !is_whole(folder, b"constraints.csv", read, 262144) {
         return false;
     }
     plan_sheets(
+        rt,
         folder,
         wish,
         strands,

@@ -13,6 +13,7 @@ use units::{Check, Refusal};
 
 // Tests the sheet of keys, and plans on.
 pub(crate) fn plan_keys(
+    rt: &HostRuntime,
     folder: &[u8],
     wish: Wish,
     strand_sheet: &[u8],
@@ -56,6 +57,7 @@ pub(crate) fn plan_keys(
         return false;
     }
     plan_matrices(
+        rt,
         folder,
         wish,
         strand_sheet,
@@ -88,6 +90,7 @@ fn glues_of(count: usize) -> usize
 
 // Fills the matrices, and plans on.
 fn plan_matrices(
+    rt: &HostRuntime,
     folder: &[u8],
     wish: Wish,
     strand_sheet: &[u8],
@@ -130,6 +133,7 @@ fn plan_matrices(
         Check::Passed => (),
     }
     plan_strands(
+        rt,
         folder,
         wish,
         strand_sheet,

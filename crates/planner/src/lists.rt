@@ -56,6 +56,7 @@ fn say_off_grid(folder: &[u8], rows: usize, cols: usize) {
 
 // Reads the lists, and plans on.
 pub(crate) fn plan_lists(
+    rt: &HostRuntime,
     folder: &[u8],
     wish: Wish,
     lists: &[u8],
@@ -83,6 +84,7 @@ pub(crate) fn plan_lists(
             false
         }
         CountAnswer::Count(n) => plan_ledger(
+            rt,
             folder,
             wish,
             z,
@@ -103,6 +105,7 @@ pub(crate) fn plan_lists(
 
 // Makes the ledger of the run and the page of the report, and plans on.
 fn plan_ledger(
+    rt: &HostRuntime,
     folder: &[u8],
     wish: Wish,
     z: Sizes,
@@ -122,6 +125,7 @@ fn plan_ledger(
     let mut notes = [0u8; 400000];
     let mut page = [0u8; 524288];
     plan_over(
+        rt,
         folder,
         wish,
         z,
@@ -144,6 +148,7 @@ fn plan_ledger(
 
 // Lends the whole arrays as slices.
 fn plan_over(
+    rt: &HostRuntime,
     folder: &[u8],
     wish: Wish,
     z: Sizes,
@@ -163,6 +168,7 @@ fn plan_over(
     page: &mut [u8; 524288],
 ) -> bool {
     plan_run(
+        rt,
         folder,
         wish,
         z,
@@ -185,6 +191,7 @@ fn plan_over(
 
 // Finds the layout of least energy, and shows it.
 fn plan_run(
+    rt: &HostRuntime,
     folder: &[u8],
     wish: Wish,
     z: Sizes,
@@ -235,6 +242,7 @@ fn plan_run(
             false
         }
         EnergyAnswer::Energy(energy) => show(
+            rt,
             folder,
             wish,
             z,

@@ -1,5 +1,6 @@
 // Plans folders of sheets: the layout of least energy of each, and why every bay holds what it holds.
 #![tactic(auto)]
+
 mod drawing;
 mod files;
 mod folder;
@@ -46,67 +47,67 @@ fn write_progress(folder: &[u8], number: usize, count: usize) {
 }
 
 // Plans the folder that the word at a place names.
-fn plan_word(place: usize, number: usize, count: usize, wish: Wish) -> bool {
+fn plan_word(rt: &HostRuntime, place: usize, number: usize, count: usize, wish: Wish) -> bool {
     let mut room = io::buffer();
-    let n = os::arg(place, &mut room);
+    let n = host_calls::arg(rt, place, &mut room);
     let folder = first_bytes(&room, n);
-    if is_there(b"--progress") {
+    if is_there(rt, b"--progress") {
         write_progress(folder, number, count);
     }
-    plan_folder(folder, wish)
+    plan_folder(rt, folder, wish)
 }
 
 // How many of the folders that a word names, 0 or 1, could not be planned.
-fn failures_at(place: usize, number: usize, count: usize, wish: Wish) -> usize
+fn failures_at(rt: &HostRuntime, place: usize, number: usize, count: usize, wish: Wish) -> usize
     ensures { result ≤ 1 }
 {
-    if !is_folder(place) {
+    if !is_folder(rt, place) {
         return 0;
     }
-    if plan_word(place, number, count, wish) {
+    if plan_word(rt, place, number, count, wish) {
         return 0;
     }
     1
 }
 
 // Plans one folder after the other; the answer is how many could not be planned.
-fn plan_words(wish: Wish, count: usize) -> usize {
-    let words = os::arg_count();
+fn plan_words(rt: &HostRuntime, wish: Wish, count: usize) -> usize {
+    let words = host_calls::arg_count(rt);
     let mut number = 0;
     let mut failed = 0;
     let mut i = 1;
     while i < words {
-        number += folders_at(i);
-        failed += failures_at(i, number, count, wish);
+        number += folders_at(rt, i);
+        failed += failures_at(rt, i, number, count, wish);
         i += 1;
     }
     failed
 }
 
 // Plans every folder.
-fn plan() -> usize {
-    let count = folders();
-    plan_words(asked_for(count), count)
+fn plan(rt: &HostRuntime) -> usize {
+    let count = folders(rt);
+    plan_words(rt, asked_for(rt, count), count)
 }
 
 // Tells on descriptor 3 that all went well, where that is asked for.
-fn tell() {
-    if is_there(b"--outcome") {
+fn tell(rt: &HostRuntime) {
+    if is_there(rt, b"--outcome") {
         io::write_all(3, b"planned\n");
     }
 }
 
-fn main() {
-    if is_there(b"--help") {
+fn main(rt: HostRuntime) {
+    if is_there(&rt, b"--help") {
         if write_help() {
-            tell();
+            tell(&rt);
         }
         return;
     }
-    if !is_usable() {
+    if !is_usable(&rt) {
         return;
     }
-    if plan() == 0 {
-        tell();
+    if plan(&rt) == 0 {
+        tell(&rt);
     }
 }

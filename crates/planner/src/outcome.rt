@@ -48,6 +48,7 @@ fn is_showable(
 
 // Shows a layout, as it is asked for: what can fail comes first, and the drawing before any output.
 pub(crate) fn show(
+    rt: &HostRuntime,
     folder: &[u8],
     wish: Wish,
     z: Sizes,
@@ -100,6 +101,7 @@ pub(crate) fn show(
     }
     let shown = first_bytes(&marks, layout.len());
     if !draw(
+        rt,
         folder,
         wish.svg,
         z.rows,
@@ -121,6 +123,7 @@ pub(crate) fn show(
         return write_summary(folder, wish.exact, energy, layout);
     }
     show_whole(
+        rt,
         folder,
         wish,
         z,
@@ -147,6 +150,7 @@ pub(crate) fn show(
 // Shows the grid of names with its energy, then the reason of each bay, then the bay that is asked about; of several folders
 // each ends with an empty line.
 fn show_whole(
+    rt: &HostRuntime,
     folder: &[u8],
     wish: Wish,
     z: Sizes,
@@ -211,6 +215,7 @@ fn show_whole(
         return false;
     }
     if !show_bay(
+        rt,
         folder,
         wish,
         z,
@@ -238,6 +243,7 @@ fn show_whole(
 
 // Shows the bay that is asked about, if one is.
 fn show_bay(
+    rt: &HostRuntime,
     folder: &[u8],
     wish: Wish,
     z: Sizes,
@@ -259,6 +265,7 @@ fn show_bay(
         return true;
     }
     write_why(
+        rt,
         folder,
         wish,
         z,

@@ -29,6 +29,7 @@ fn is_none(sheet: &[u8]) -> bool {
 
 // Reads the seeds, and plans on.
 pub(crate) fn plan_seeds(
+    rt: &HostRuntime,
     folder: &[u8],
     wish: Wish,
     seed_sheet: &[u8],
@@ -55,6 +56,7 @@ pub(crate) fn plan_seeds(
         return false;
     }
     plan_temperature(
+        rt,
         folder,
         wish,
         temperature,
@@ -245,6 +247,7 @@ fn triples_lent(
 
 // Reads the temperature, and plans on.
 fn plan_temperature(
+    rt: &HostRuntime,
     folder: &[u8],
     wish: Wish,
     temperature: &[u8],
@@ -292,6 +295,7 @@ fn plan_temperature(
         return false;
     }
     plan_lists(
+        rt,
         folder,
         wish,
         lists,

@@ -29,6 +29,7 @@ fn read_logs(strand_sheet: &[u8], records: usize, logs: &mut [f64]) -> usize
 
 // Reads the strands' own fields, and plans on.
 pub(crate) fn plan_strands(
+    rt: &HostRuntime,
     folder: &[u8],
     wish: Wish,
     strand_sheet: &[u8],
@@ -71,6 +72,7 @@ pub(crate) fn plan_strands(
         return false;
     }
     plan_seeds(
+        rt,
         folder,
         wish,
         seed_sheet,

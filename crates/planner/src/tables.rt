@@ -12,6 +12,7 @@ use units::CountAnswer;
 
 // Plans a folder's sheets.
 pub(crate) fn plan_sheets(
+    rt: &HostRuntime,
     folder: &[u8],
     wish: Wish,
     strand_sheet: &[u8],
@@ -54,6 +55,7 @@ pub(crate) fn plan_sheets(
         return false;
     }
     plan_grid(
+        rt,
         folder,
         wish,
         strand_sheet,
@@ -103,6 +105,7 @@ fn register_into(
 
 // Plans sheets over a grid of known size.
 fn plan_grid(
+    rt: &HostRuntime,
     folder: &[u8],
     wish: Wish,
     strand_sheet: &[u8],
@@ -145,6 +148,7 @@ fn plan_grid(
     };
     let end = offsets[records * 5 + bays];
     plan_keys(
+        rt,
         folder,
         wish,
         strand_sheet,

@@ -34,9 +34,9 @@ constraints.csv   the register's sheet: a 0 alone keeps a bay empty\n",
 }
 
 // Says what is wrong with a word.
-fn say_word(fault: WordFault) {
+fn say_word(rt: &HostRuntime, fault: WordFault) {
     let mut room = io::buffer();
-    let n = os::arg(fault.place, &mut room);
+    let n = host_calls::arg(rt, fault.place, &mut room);
     let word = first_bytes(&room, n);
     if fault.fault == 1 {
         return say(b"usage", b"a word is longer than 4095 bytes");
@@ -51,17 +51,17 @@ fn say_word(fault: WordFault) {
 }
 
 // Whether options that go with one folder have one.
-fn fit_each_other(count: usize) -> bool {
+fn fit_each_other(rt: &HostRuntime, count: usize) -> bool {
     if count == 0 {
         say(b"usage", b"name a folder of sheets; --help tells more");
         return false;
     }
     if count != 1 {
-        if is_there(b"--sheet") {
+        if is_there(rt, b"--sheet") {
             say(b"--sheet", b"this option goes with one folder");
             return false;
         }
-        if is_there(b"--svg") {
+        if is_there(rt, b"--svg") {
             say(b"--svg", b"this option goes with one folder");
             return false;
         }
@@ -70,8 +70,8 @@ fn fit_each_other(count: usize) -> bool {
 }
 
 // Whether the bay that is asked about is one.
-fn is_bay_named(count: usize) -> bool {
-    let asked = asked_for(count);
+fn is_bay_named(rt: &HostRuntime, count: usize) -> bool {
+    let asked = asked_for(rt, count);
     if !asked.why {
         return true;
     }
@@ -93,23 +93,23 @@ fn is_bay_named(count: usize) -> bool {
 }
 
 // Whether the words can be followed; where not, a sentence says so.
-pub(crate) fn is_usable() -> bool {
-    let fault = first_fault();
+pub(crate) fn is_usable(rt: &HostRuntime) -> bool {
+    let fault = first_fault(rt);
     if fault.fault != 0 {
-        say_word(fault);
+        say_word(rt, fault);
         return false;
     }
-    if stands_twice(b"--why") {
+    if stands_twice(rt, b"--why") {
         say(b"--why", b"ask about one bay at a time");
         return false;
     }
-    if stands_twice(b"--svg") {
+    if stands_twice(rt, b"--svg") {
         say(b"--svg", b"name one file");
         return false;
     }
-    let count = folders();
-    if !fit_each_other(count) {
+    let count = folders(rt);
+    if !fit_each_other(rt, count) {
         return false;
     }
-    is_bay_named(count)
+    is_bay_named(rt, count)
 }

@@ -34,6 +34,7 @@ fn from_zero(count: usize) -> usize
 
 // Writes what is to be said of the bay that is asked about.
 pub(crate) fn write_why(
+    rt: &HostRuntime,
     folder: &[u8],
     wish: Wish,
     z: Sizes,

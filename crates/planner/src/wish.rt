@@ -59,15 +59,15 @@ pub(crate) fn bay_of(text: &[u8]) -> Bay {
 }
 
 // The bay that the word at a place names.
-fn bay_at(place: usize) -> Bay {
+fn bay_at(rt: &HostRuntime, place: usize) -> Bay {
     let mut room = io::buffer();
-    let n = os::arg(place, &mut room);
+    let n = host_calls::arg(rt, place, &mut room);
     bay_of(first_bytes(&room, n))
 }
 
 // The place after that of an option, 0 where it is not there.
-fn value_place(option: &[u8]) -> usize {
-    let at = place_of(option, 1);
+fn value_place(rt: &HostRuntime, option: &[u8]) -> usize {
+    let at = place_of(rt, option, 1);
     if at == 0 {
         return 0;
     }
@@ -75,17 +75,17 @@ fn value_place(option: &[u8]) -> usize {
 }
 
 // What is asked, of one folder or of several: several have a line each unless the whole is asked for.
-pub(crate) fn asked_for(folders: usize) -> Wish {
-    let why = value_place(b"--why");
-    let bay = bay_at(why);
+pub(crate) fn asked_for(rt: &HostRuntime, folders: usize) -> Wish {
+    let why = value_place(rt, b"--why");
+    let bay = bay_at(rt, why);
     Wish {
-        exact: is_there(b"--exact"),
-        sheet: is_there(b"--sheet"),
-        whole: folders == 1 || is_there(b"--each") || why != 0,
+        exact: is_there(rt, b"--exact"),
+        sheet: is_there(rt, b"--sheet"),
+        whole: folders == 1 || is_there(rt, b"--each") || why != 0,
         several: folders != 1,
         why: why != 0,
         row: bay.row,
         column: bay.column,
-        svg: value_place(b"--svg"),
+        svg: value_place(rt, b"--svg"),
     }
 }

@@ -28,32 +28,31 @@ pub(crate) fn same(a: &[u8], b: &[u8]) -> bool {
 }
 
 // Whether a word stands at a place.
-fn is_word(place: usize, word: &[u8]) -> bool {
+fn is_word(rt: &HostRuntime, place: usize, word: &[u8]) -> bool {
     let mut room = io::buffer();
-    let n = os::arg(place, &mut room);
+    let n = host_calls::arg(rt, place, &mut room);
     same(first_bytes(&room, n), word)
 }
 
 // Whether the word at a place begins with a dash.
-fn is_dashed(place: usize) -> bool {
+fn is_dashed(rt: &HostRuntime, place: usize) -> bool {
     let mut room = io::buffer();
-    let n = os::arg(place, &mut room);
+    let n = host_calls::arg(rt, place, &mut room);
     begins(first_bytes(&room, n), b"-")
 }
 
 // Whether the word at a place is as short as a path has to be.
-fn is_short(place: usize) -> bool {
+fn is_short(rt: &HostRuntime, place: usize) -> bool {
     let mut room = io::buffer();
-    os::arg(place, &mut room);
-    os::errno() == 0
+    host_calls::fits(rt, place, &mut room)
 }
 
 // The first place from one on that has a word, 0 where none has.
-pub(crate) fn place_of(word: &[u8], from: usize) -> usize {
-    let count = os::arg_count();
+pub(crate) fn place_of(rt: &HostRuntime, word: &[u8], from: usize) -> usize {
+    let count = host_calls::arg_count(rt);
     let mut i = from;
     while i < count {
-        if is_word(i, word) {
+        if is_word(rt, i, word) {
             return i;
         }
         i += 1;
@@ -62,87 +61,87 @@ pub(crate) fn place_of(word: &[u8], from: usize) -> usize {
 }
 
 // Whether a word is among the arguments.
-pub(crate) fn is_there(word: &[u8]) -> bool {
-    place_of(word, 1) != 0
+pub(crate) fn is_there(rt: &HostRuntime, word: &[u8]) -> bool {
+    place_of(rt, word, 1) != 0
 }
 
 // Whether an option that takes a value stands at a place.
-fn takes_value(place: usize) -> bool {
-    if is_word(place, b"--why") {
+fn takes_value(rt: &HostRuntime, place: usize) -> bool {
+    if is_word(rt, place, b"--why") {
         return true;
     }
-    is_word(place, b"--svg")
+    is_word(rt, place, b"--svg")
 }
 
 // Whether an option that stands alone is at a place.
-fn stands_alone(place: usize) -> bool {
-    is_word(place, b"--exact")
-        || is_word(place, b"--each")
-        || is_word(place, b"--sheet")
-        || is_word(place, b"--progress")
-        || is_word(place, b"--outcome")
-        || is_word(place, b"--help")
+fn stands_alone(rt: &HostRuntime, place: usize) -> bool {
+    is_word(rt, place, b"--exact")
+        || is_word(rt, place, b"--each")
+        || is_word(rt, place, b"--sheet")
+        || is_word(rt, place, b"--progress")
+        || is_word(rt, place, b"--outcome")
+        || is_word(rt, place, b"--help")
 }
 
 // Whether the word at a place is the value of the option before it.
-fn is_value(place: usize) -> bool {
+fn is_value(rt: &HostRuntime, place: usize) -> bool {
     if place < 2 {
         return false;
     }
-    takes_value(place - 1)
+    takes_value(rt, place - 1)
 }
 
 // Whether the word at a place is a folder.
-pub(crate) fn is_folder(place: usize) -> bool {
-    if is_dashed(place) {
+pub(crate) fn is_folder(rt: &HostRuntime, place: usize) -> bool {
+    if is_dashed(rt, place) {
         return false;
     }
-    !is_value(place)
+    !is_value(rt, place)
 }
 
 // How many folders the word at a place names, 0 or 1.
-pub(crate) fn folders_at(place: usize) -> usize
+pub(crate) fn folders_at(rt: &HostRuntime, place: usize) -> usize
     ensures { result ≤ 1 }
 {
-    if is_folder(place) { 1 } else { 0 }
+    if is_folder(rt, place) { 1 } else { 0 }
 }
 
 // How many folders are named.
-pub(crate) fn folders() -> usize {
-    let count = os::arg_count();
+pub(crate) fn folders(rt: &HostRuntime) -> usize {
+    let count = host_calls::arg_count(rt);
     let mut named = 0;
     let mut i = 1;
     while i < count {
-        named += folders_at(i);
+        named += folders_at(rt, i);
         i += 1;
     }
     named
 }
 
 // What is wrong with a word: 0 nothing, 1 too long, 2 no option, 3 an option that lacks its value.
-fn word_fault(place: usize) -> u8 {
-    if !is_short(place) {
+fn word_fault(rt: &HostRuntime, place: usize) -> u8 {
+    if !is_short(rt, place) {
         return 1;
     }
-    if takes_value(place) {
-        return value_fault(place);
+    if takes_value(rt, place) {
+        return value_fault(rt, place);
     }
-    if !is_dashed(place) {
+    if !is_dashed(rt, place) {
         return 0;
     }
-    if stands_alone(place) {
+    if stands_alone(rt, place) {
         return 0;
     }
     2
 }
 
 // What is wrong with an option that takes the word after it.
-fn value_fault(place: usize) -> u8 {
+fn value_fault(rt: &HostRuntime, place: usize) -> u8 {
     let value = after(place);
-    if os::arg_count() <= value {
+    if host_calls::arg_count(rt) <= value {
         return 3;
     }
-    if is_dashed(value) {
+    if is_dashed(rt, value) {
         return 3;
     }
     0
@@ -156,11 +155,11 @@ pub(crate) struct WordFault {
 }
 
 // The first word that has one.
-pub(crate) fn first_fault() -> WordFault {
-    let count = os::arg_count();
+pub(crate) fn first_fault(rt: &HostRuntime) -> WordFault {
+    let count = host_calls::arg_count(rt);
     let mut i = 1;
     while i < count {
-        let fault = word_fault(i);
+        let fault = word_fault(rt, i);
         if fault != 0 {
             return WordFault {
                 place: i,
@@ -173,10 +172,10 @@ pub(crate) fn first_fault() -> WordFault {
 }
 
 // Whether an option stands twice.
-pub(crate) fn stands_twice(word: &[u8]) -> bool {
-    let first = place_of(word, 1);
+pub(crate) fn stands_twice(rt: &HostRuntime, word: &[u8]) -> bool {
+    let first = place_of(rt, word, 1);
     if first == 0 {
         return false;
     }
-    place_of(word, after(first)) != 0
+    place_of(rt, word, after(first)) != 0
 }
