@@ -1,4 +1,6 @@
 // The names that are shown for the bays of a layout, and how wide they are.
+#![tactic(auto)]
+
 ghost use Rattle.std.specs.Prelude.{◌≡◌, max, get_or};
 ghost use Rattle.name_strands.specs.Names.{strand_names};
 ghost use Rattle.plan_bay_names.specs.Bays.{name_of, bay_text, begun, character_count, front_bytes, widest_bay};
