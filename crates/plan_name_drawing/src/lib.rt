@@ -1,6 +1,8 @@
 // A name in the middle of a square, put into a lent text as far as it fits.
 //
 // Each `put_` function puts its part at the place `at`, leaves the rest of the text as it is, and gives back the next place.
+#![tactic(auto)]
+
 ghost use Rattle.std.specs.Prelude.{◌≡◌};
 ghost use Rattle.text_put.specs.Puts.{Put};
 ghost use Rattle.plan_name_drawing.specs.Escaped.{escaped_byte, escaped};
