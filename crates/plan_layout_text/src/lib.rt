@@ -1,6 +1,8 @@
 // A layout written as a grid of tile names, one row a line, into a lent text as far as it fits.
 //
 // Each `put_` function puts its part at the place `at`, leaves the rest of the text as it is, and gives back the next place.
+#![tactic(auto)]
+
 ghost use Rattle.std.specs.Prelude.{◌≡◌, ◌+◌, ◌-◌, ◌≤◌, min, length, drop};
 ghost use Rattle.text_put.specs.Puts.{Put};
 ghost use Rattle.name_strands.specs.Names.{strand_names};
