@@ -1,4 +1,6 @@
 // What the values of fields come to where a reader goes on after an unreadable one: flags and counts beside the values.
+#![tactic(auto)]
+
 ghost use Rattle.std.specs.Prelude.{◌≡◌, ◌^◌, ◌≤◌, length};
 ghost use Rattle.text_digits.specs.Digits.{worth, is_number, is_float, float_in};
 ghost use Rattle.case_lists.specs.Lists.{items};
