@@ -1,4 +1,4 @@
-// The least-energy run for callers in C or Rust that link the archive: sizes as plain numbers, slices as pointer and length, and the answer as a struct of numbers.
+// The least-energy run for callers in C or Rust, whose archive `run_export_c` is: sizes as plain numbers, slices as pointer and length, and the answer as a struct of numbers.
 ghost use Rattle.std.specs.Prelude.{◌≡◌, length};
 ghost use Rattle.units.specs.Refusals.{number_in};
 ghost use Rattle.bay_system.specs.System.{system};
@@ -48,8 +48,7 @@ fn kind_of(constrained: u8) -> ConstraintKind
 }
 
 // The layout of least energy, its energy and its ledger, as `sdc2d_thermo::mfe_configuration` gives them.
-#[unsafe(no_mangle)]
-pub extern "C" fn run_export_mfe_configuration(
+pub fn run_export_mfe_configuration(
     rows: usize,
     cols: usize,
     strands: usize,
