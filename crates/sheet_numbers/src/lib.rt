@@ -1,6 +1,8 @@
 // Numbers of a sheet: columns of decimals and of logarithms, a field read as a decimal, and one read as a row or a column of a grid.
 //
 // What reads a column puts a number for every record and answers the first line, from 1, whose field is none, 0 where there is none.
+#![tactic(auto)]
+
 mod count_field;
 mod faults;
 mod float_column;
