@@ -1,4 +1,6 @@
 // What the rules take over of the Rust's utils.rs, under its names: the calls on sequences and the tables that they read.
+#![tactic(auto)]
+
 pub use dna_calls::{string_dna_delta_g, string_dna_dg_ds, string_dna_hundredths};
 pub use dna_letters::{DnaNucleotideBase, good_match};
 pub use dna_loops::{LENGTHS, LOOP_TABLE, LoopPenalty, loop_penalty};
