@@ -1,4 +1,4 @@
-//! Times the Rattle run, which is linked as the archive of `rt staticlib run_export`.
+//! Times the Rattle run, which is linked as the archive that `bin/archive` makes.
 
 mod systems;
 mod timing;
