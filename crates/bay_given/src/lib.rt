@@ -1,4 +1,6 @@
 // What is refused of what is given, the system and its constraints: 1 to 5. Every call on a system and constraints begins with this test.
+#![tactic(auto)]
+
 ghost use Rattle.std.specs.Prelude.{◌≡◌, ◌≤◌};
 ghost use Rattle.units.specs.Limits.{most_side};
 ghost use Rattle.units.specs.Refusals.{check};

@@ -1,4 +1,6 @@
 // The listing sum of a layout, in units of R·T: from 0.0, row by row, bay, west bond, north bond, one after another.
+#![tactic(auto)]
+
 ghost use Rattle.std.specs.Prelude.{◌≡◌, ◌%◌, eqb, length};
 ghost use Rattle.energy_listing_sum.specs.Listing.{strand_at, with_edge, with_west, with_north, listing};
 
