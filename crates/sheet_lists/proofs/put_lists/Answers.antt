@@ -28,7 +28,7 @@ pub bounds-offsets-bays : goal.bounds-offsets-bays
 bounds-offsets-bays c = let long = c.loop-bay.invariant.long in omega arith
 
 pub shape_of-offsets : goal.shape_of-offsets
-shape_of-offsets c = length-set c.loop-bay.offsets c.args.bays c.loop-bay.at ∙ c.loop-bay.invariant.long ∙ sym c.requires.offsets_len
+shape_of-offsets c = length-set c.loop-bay.offsets c.args.bays _ ∙ c.loop-bay.invariant.long ∙ sym c.requires.offsets_len
 
 pub shape_of-tiles : goal.shape_of-tiles
 shape_of-tiles c = c.loop-bay.invariant.put.long
