@@ -1,4 +1,6 @@
 // What the seeds' sheet tells, a record of three fields for each seed: its row and its column, counted from 1, and its name.
+#![tactic(auto)]
+
 ghost use Rattle.std.specs.Prelude.{◌≡◌, ◌*◌, ◌≤◌, ◌<◌, length};
 ghost use Rattle.std.proofs.lemmas.List.Edits.{sets};
 ghost use Rattle.sheet_names.specs.FrontFilled.{FrontFilled};

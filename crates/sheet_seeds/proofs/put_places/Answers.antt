@@ -1,0 +1,44 @@
+-- `sheet_seeds::put_places` meets its contract. The loop's invariant is `InPlaces`: the seeds that are left end the table and tell the fault. Assumes
+-- nothing.
+use mathlib.Core.Path.{ap}
+use native.Mathlib.Omega.{arith}
+use lib.ListN.{length-set}
+use Rattle.sheet_fields.proofs.Runs.{place_within}
+use Rattle.sheet_numbers.specs.declared.count_field.Count.{Count}
+use Rattle.sheet_seeds.proofs.Places.{places_start, places_go_on, places_put, places_fault}
+use Rattle.sheet_seeds.proofs.put_places.Goals as goal
+
+pub loop-i-init : goal.loop-i-init
+loop-i-init c = let a = c.args in places_start a.records a.sheet.now a.places.now
+
+pub count_at-row-requires : goal.count_at-row-requires
+count_at-row-requires c = c.loop-i.invariant.put.inside
+
+pub count_at-column-requires : goal.count_at-column-requires
+count_at-column-requires c = let a = c.args in
+    place_within a.sheet.now c.loop-i.next 1 c.place_after-second.result c.loop-i.invariant.put.inside c.place_after-second.ensures
+
+pub bounds-places-i : goal.bounds-places-i
+bounds-places-i c = let long = c.loop-i.invariant.put.long in omega arith
+
+pub bounds-places-i-in-loop-i : goal.bounds-places-i-in-loop-i
+bounds-places-i-in-loop-i c = let long = c.loop-i.invariant.put.long in simp length-set (omega arith)
+
+pub loop-i-preserved : goal.loop-i-preserved
+loop-i-preserved c = let a = c.args in
+    let s = c.loop-i in
+    places_go_on a.records a.sheet.now a.places.now s.places s.fault s.next s.i s.invariant c.loop-i-test.true c.place_after-second.result c.place_after-next.result c.place_after-second.ensures c.place_after-next.ensures
+    c.count_at-row.result.value c.count_at-column.result.value (ap (λ (n : Count). n.value) c.count_at-row.ensures) (ap (λ (n : Count). n.value) c.count_at-column.ensures)
+    c.count_at-row.result.sound c.count_at-column.result.sound (ap (λ (n : Count). n.sound) c.count_at-row.ensures) (ap (λ (n : Count). n.sound) c.count_at-column.ensures)
+    c.first_fault-fault.result c.first_fault-fault.ensures
+
+pub shape_of-places : goal.shape_of-places
+shape_of-places c = c.loop-i.invariant.put.long
+
+pub returns : goal.returns
+returns c = let a = c.args in
+    let s = c.loop-i in
+    record {
+      value = places_fault a.records a.sheet.now a.places.now s.places s.fault s.next s.i s.invariant c.loop-i-test.false;
+      places_after = places_put a.records a.sheet.now a.places.now s.places s.fault s.next s.i s.invariant c.loop-i-test.false;
+    }
