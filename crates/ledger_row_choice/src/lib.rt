@@ -1,4 +1,6 @@
 // One row of a block: the lowest sum over the strands that leave the window.
+#![tactic(auto)]
+
 ghost use Rattle.std.specs.Prelude.{◌≡◌, ◌≤◌, ◌<◌, length};
 ghost use Rattle.units.specs.Limits.{most_rows, most_strands};
 ghost use Rattle.ledger_rows.specs.Blocks.{held_at};
