@@ -1,4 +1,6 @@
 // The constraints of a system: where each bay's list ends, and the strands of all lists.
+#![tactic(auto)]
+
 ghost use Rattle.std.specs.Prelude.{◌≤◌, ◌≡◌, cond, length};
 ghost use Rattle.bay_lists.specs.declared.ConstraintKind.TheVariants.{Absent, Lists};
 ghost use Rattle.case_constraints.specs.Within.{ConstraintsWithin};

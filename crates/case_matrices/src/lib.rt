@@ -1,4 +1,6 @@
 // The two matrices of a system: 0.0 but for the cells that the case names; a later cell replaces an earlier one.
+#![tactic(auto)]
+
 ghost use Rattle.std.specs.Prelude.{◌≤◌, length};
 
 use case_field_reads::{ListRead, at_most, floats_field, is_number, number_in, numbers_field};

@@ -1,4 +1,6 @@
 // Tables that the fields of a case are read into, several in one, each between two places of its own, and how much of each was read.
+#![tactic(auto)]
+
 mod grid;
 
 ghost use Rattle.std.specs.Prelude.{◌&&◌, ◌≡◌, ◌^◌, take, drop};

@@ -5,9 +5,7 @@ use mathlib.Core.Path.{◌≡◌, sym, ◌∙◌}
 use Rattle.text_digits.specs.declared.kinds.Number.{Number}
 use Rattle.case_field_reads.specs.Reads.{is_read, number_in}
 use Rattle.case_parts.specs.Parts.{unread, length_for}
-use borrow.Author.Rules.{rules}
-use Rattle.case_parts.proofs.length_of.Statement.{statement}
-use Rattle.case_parts.proofs.length_of.Tie as tie
+use Rattle.case_parts.proofs.length_of.Goals as goal
 
 module _ {n said : Number} {t : Bool} (e : n ≡ said) (told : t ≡ is_read n) where
   as_said : {r : ℕ} → t ≡ true → r ≡ number_in n → r ≡ length_for said
@@ -16,22 +14,8 @@ module _ {n said : Number} {t : Bool} (e : n ≡ said) (told : t ≡ is_read n) 
   not_said : t ≡ false → unread ≡ length_for said
   not_said no' = rw (← e, sym told ∙ no')
 
-returns : tie.Need-returns
-returns c =
-    let tested = c.before.before in
-    as_said tested.before.number-or.ensures tested.is_number.ensures c.before.if1.true c.number_in.ensures
+pub returns-then-is_number : goal.returns-then-is_number
+returns-then-is_number c = as_said c.number_or-length.ensures c.is_number.ensures c.if-is_number.true c.number_in.ensures
 
-returns-2 : tie.Need-returns-2
-returns-2 c =
-    let tested = c.before in
-    not_said tested.before.number-or.ensures tested.is_number.ensures c.if1.false
-
-pub length-of-spec : {M : Type 1} → statement M
-length-of-spec =
-    tie.close
-    (tie.spec
-    (λ c κs. search rules)
-    (λ c κs. search rules)
-    (λ c κs. search rules)
-    returns
-    returns-2)
+pub returns : goal.returns
+returns c = not_said c.number_or-length.ensures c.is_number.ensures c.if-is_number.false

@@ -1,0 +1,13 @@
+-- `case_matrices::place` stays within a number. Assumes nothing.
+use native.Mathlib.Nat.{mul-le-mul}
+use native.Mathlib.Omega.{arith}
+use Rattle.case_matrices.proofs.place.Goals as goal
+
+pub overflow_mul-result : goal.overflow_mul-result
+overflow_mul-result c = omega (arith, mul-le-mul c.at_most-r.ensures c.at_most-g.ensures)
+
+pub overflow_add-result : goal.overflow_add-result
+overflow_add-result c = omega (arith, mul-le-mul c.at_most-r.ensures c.at_most-g.ensures, c.at_most-c.ensures)
+
+pub returns : goal.returns
+returns c = tt
