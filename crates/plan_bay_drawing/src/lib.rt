@@ -1,6 +1,8 @@
 // A bay in a drawing, put into a lent text as far as it fits.
 //
 // Each function puts its part at the place `at`, leaves the rest of the text as it is, and gives back the next place.
+#![tactic(auto)]
+
 ghost use Rattle.text_put.specs.Puts.{Put};
 ghost use Rattle.name_strands.specs.Names.{strand_names};
 ghost use Rattle.plan_bay_drawing.specs.Squares.{square, tile_label, bay_drawing};
