@@ -1,4 +1,6 @@
 // What is asked of a bay's list: whether it allows a strand, and whether it names nothing but 0.
+#![tactic(auto)]
+
 ghost use Rattle.std.specs.Prelude.{◌≡◌};
 ghost use Rattle.bay_lists.specs.Lists.{names, list_allows};
 ghost use Rattle.plan_list_readers.specs.Reading.{only_zeros};
