@@ -1,6 +1,8 @@
 // A sheet written from the lists of a grid's bays into a lent text, as far as it fits; and how many bytes it takes.
 //
 // Each function here puts its part at the place `at`, leaves the rest of the text as it is, and answers the next place.
+#![tactic(auto)]
+
 ghost use Rattle.std.specs.Prelude.{◌≡◌, true, ◌++◌, ◌+◌, ◌*◌, ◌≤◌, length};
 ghost use Rattle.text_put.specs.Puts.{Put, number_text};
 ghost use Rattle.bay_lists.specs.Lists.{offsets_shaped, lists};
