@@ -1,4 +1,6 @@
 // What the strands' sheet tells, a record of seven fields for each strand but strand 0: names and logarithms.
+#![tactic(auto)]
+
 ghost use Rattle.std.specs.Prelude.{◌≡◌, ◌+◌, ◌<◌, length};
 ghost use Rattle.std.proofs.lemmas.List.Edits.{sets};
 ghost use Rattle.sheet_names.specs.FrontFilled.{FrontFilled};
