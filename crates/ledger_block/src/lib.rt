@@ -1,4 +1,6 @@
 // One bay's block, written line by line: for each row q of what stays, the rows of the bay's strands.
+#![tactic(auto)]
+
 ghost use Rattle.std.specs.Prelude.{◌≡◌, ◌*◌, ◌≤◌, ◌<◌, length};
 ghost use Rattle.units.specs.Limits.{most_strands};
 ghost use Rattle.ledger_row_choice.specs.Row.{strands_of};
