@@ -1,4 +1,6 @@
 // The fields of a system in a case line (docs/CASES.md, "Calls on systems"), read to the fronts of lent tables.
+#![tactic(auto)]
+
 ghost use Rattle.case_systems.specs.Within.{Within};
 
 mod lists;
