@@ -33,7 +33,7 @@ def read(path):
         name, colon, rest = line.split("#")[0].partition(":")
         if not colon:
             continue
-        here = room(name.strip())
+        here = room(name.split()[0])
         counts[here] = counts.get(here, 0) + 1
         below = {room(other) for other in rest.split() if other not in KIT}
         uses.setdefault(here, set()).update(below - {here})

@@ -78,7 +78,7 @@ fn read_once(alloc: Global, file: &mut impl Read, name: &[u8], room: &mut [u8]) 
     match file.read(room) {
         Ok(bytes) => bytes,
         Err(error) => {
-            host_calls::fail(alloc, name, error);
+            text_host::fail(alloc, name, error);
             0
         }
     }

@@ -37,17 +37,17 @@ fn answer_argument(
     out: &mut [u8; 1310720],
 ) {
     let mut path = io::buffer();
-    let n = host_calls::arg(rt, place, &mut path);
+    let n = text_host::arg(rt, place, &mut path);
     let name = first_bytes(&path, n);
-    match host_calls::open_read(rt, name) {
+    match text_host::open_read(rt, name) {
         Ok(mut file) => answer_file(rt.alloc(), &mut file, name, room, out),
-        Err(error) => host_calls::fail(rt.alloc(), name, error),
+        Err(error) => text_host::fail(rt.alloc(), name, error),
     }
 }
 
 // Answers one file after the other.
 fn answer_arguments(rt: &HostRuntime, room: &mut [u8; 1048576], out: &mut [u8; 1310720]) {
-    let words = host_calls::arg_count(rt);
+    let words = text_host::arg_count(rt);
     let mut i = 1;
     while i < words {
         answer_argument(rt, i, room, out);
@@ -58,7 +58,7 @@ fn answer_arguments(rt: &HostRuntime, room: &mut [u8; 1048576], out: &mut [u8; 1
 fn main(rt: HostRuntime) {
     let mut room = [0u8; 1048576];
     let mut out = [0u8; 1310720];
-    if host_calls::arg_count(&rt) < 2 {
+    if text_host::arg_count(&rt) < 2 {
         answer_file(
             rt.alloc(),
             &mut rt.stdin(),

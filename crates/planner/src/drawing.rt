@@ -45,7 +45,7 @@ pub(crate) fn draw(
         return false;
     }
     let mut file = io::buffer();
-    let n = host_calls::arg(rt, place, &mut file);
+    let n = text_host::arg(rt, place, &mut file);
     write_file(rt, folder, first_bytes(&file, n), first_bytes(page, end))
 }
 
@@ -63,8 +63,8 @@ fn write_file(rt: &HostRuntime, folder: &[u8], file: &[u8], text: &[u8]) -> bool
         );
         return false;
     }
-    if host_calls::rename(rt, own, file).is_err() {
-        let _ = host_calls::remove(rt, own);
+    if text_host::rename(rt, own, file).is_err() {
+        let _ = text_host::remove(rt, own);
         say_unwritten(folder, file, b" cannot be written");
         return false;
     }
@@ -73,11 +73,11 @@ fn write_file(rt: &HostRuntime, folder: &[u8], file: &[u8], text: &[u8]) -> bool
 
 // Makes a file that is not there yet; one that could not be written whole is taken away.
 fn write_new(rt: &HostRuntime, file: &[u8], text: &[u8]) -> bool {
-    match host_calls::create(rt, file) {
+    match text_host::create(rt, file) {
         Ok(mut made) => {
             let whole = made.write_all(text).is_ok();
             if !whole {
-                let _ = host_calls::remove(rt, file);
+                let _ = text_host::remove(rt, file);
             }
             whole
         }

@@ -8,7 +8,7 @@ use text_put::put_text;
 pub(crate) fn is_folder_there(rt: &HostRuntime, folder: &[u8]) -> bool {
     let mut path = [0u8; 4200];
     let end = put_path(folder, b".", &mut path);
-    if host_calls::open_read(rt, first_bytes(&path, end)).is_err() {
+    if text_host::open_read(rt, first_bytes(&path, end)).is_err() {
         say(folder, b"there is no such folder, or it cannot be read");
         return false;
     }

@@ -49,7 +49,7 @@ fn write_progress(folder: &[u8], number: usize, count: usize) {
 // Plans the folder that the word at a place names.
 fn plan_word(rt: &HostRuntime, place: usize, number: usize, count: usize, wish: Wish) -> bool {
     let mut room = io::buffer();
-    let n = host_calls::arg(rt, place, &mut room);
+    let n = text_host::arg(rt, place, &mut room);
     let folder = first_bytes(&room, n);
     if is_there(rt, b"--progress") {
         write_progress(folder, number, count);
@@ -72,7 +72,7 @@ fn failures_at(rt: &HostRuntime, place: usize, number: usize, count: usize, wish
 
 // Plans one folder after the other; the answer is how many could not be planned.
 fn plan_words(rt: &HostRuntime, wish: Wish, count: usize) -> usize {
-    let words = host_calls::arg_count(rt);
+    let words = text_host::arg_count(rt);
     let mut number = 0;
     let mut failed = 0;
     let mut i = 1;

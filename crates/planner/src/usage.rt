@@ -36,7 +36,7 @@ constraints.csv   the register's sheet: a 0 alone keeps a bay empty\n",
 // Says what is wrong with a word.
 fn say_word(rt: &HostRuntime, fault: WordFault) {
     let mut room = io::buffer();
-    let n = host_calls::arg(rt, fault.place, &mut room);
+    let n = text_host::arg(rt, fault.place, &mut room);
     let word = first_bytes(&room, n);
     if fault.fault == 1 {
         return say(b"usage", b"a word is longer than 4095 bytes");

@@ -61,7 +61,7 @@ pub(crate) fn bay_of(text: &[u8]) -> Bay {
 // The bay that the word at a place names.
 fn bay_at(rt: &HostRuntime, place: usize) -> Bay {
     let mut room = io::buffer();
-    let n = host_calls::arg(rt, place, &mut room);
+    let n = text_host::arg(rt, place, &mut room);
     bay_of(first_bytes(&room, n))
 }
 

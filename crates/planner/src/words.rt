@@ -30,26 +30,26 @@ pub(crate) fn same(a: &[u8], b: &[u8]) -> bool {
 // Whether a word stands at a place.
 fn is_word(rt: &HostRuntime, place: usize, word: &[u8]) -> bool {
     let mut room = io::buffer();
-    let n = host_calls::arg(rt, place, &mut room);
+    let n = text_host::arg(rt, place, &mut room);
     same(first_bytes(&room, n), word)
 }
 
 // Whether the word at a place begins with a dash.
 fn is_dashed(rt: &HostRuntime, place: usize) -> bool {
     let mut room = io::buffer();
-    let n = host_calls::arg(rt, place, &mut room);
+    let n = text_host::arg(rt, place, &mut room);
     begins(first_bytes(&room, n), b"-")
 }
 
 // Whether the word at a place is as short as a path has to be.
 fn is_short(rt: &HostRuntime, place: usize) -> bool {
     let mut room = io::buffer();
-    host_calls::fits(rt, place, &mut room)
+    text_host::fits(rt, place, &mut room)
 }
 
 // The first place from one on that has a word, 0 where none has.
 pub(crate) fn place_of(rt: &HostRuntime, word: &[u8], from: usize) -> usize {
-    let count = host_calls::arg_count(rt);
+    let count = text_host::arg_count(rt);
     let mut i = from;
     while i < count {
         if is_word(rt, i, word) {
@@ -108,7 +108,7 @@ pub(crate) fn folders_at(rt: &HostRuntime, place: usize) -> usize
 
 // How many folders are named.
 pub(crate) fn folders(rt: &HostRuntime) -> usize {
-    let count = host_calls::arg_count(rt);
+    let count = text_host::arg_count(rt);
     let mut named = 0;
     let mut i = 1;
     while i < count {
@@ -138,7 +138,7 @@ fn word_fault(rt: &HostRuntime, place: usize) -> u8 {
 // What is wrong with an option that takes the word after it.
 fn value_fault(rt: &HostRuntime, place: usize) -> u8 {
     let value = after(place);
-    if host_calls::arg_count(rt) <= value {
+    if text_host::arg_count(rt) <= value {
         return 3;
     }
     if is_dashed(rt, value) {
@@ -156,7 +156,7 @@ pub(crate) struct WordFault {
 
 // The first word that has one.
 pub(crate) fn first_fault(rt: &HostRuntime) -> WordFault {
-    let count = host_calls::arg_count(rt);
+    let count = text_host::arg_count(rt);
     let mut i = 1;
     while i < count {
         let fault = word_fault(rt, i);

@@ -97,7 +97,7 @@ fn read_path(rt: &impl Files, path: &[u8], room: &mut [u8]) -> FileRead
     ensures leaves_room { LeavesRoom result.whole result.bytes room.new }
     ensures nothing_unopened { NothingUnopened result.opened result.bytes }
 {
-    match host_calls::open_read(rt, path) {
+    match text_host::open_read(rt, path) {
         Ok(mut file) => read_open(&mut file, room),
         Err(_) => FileRead {
             opened: false,
