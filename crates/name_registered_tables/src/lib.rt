@@ -1,4 +1,6 @@
 // The three tables of a registering, written from the list of bases.
+#![tactic(auto)]
+
 ghost use Rattle.std.specs.Prelude.{◌≡◌, length};
 ghost use Rattle.units.specs.Limits.{base_numbers};
 ghost use Rattle.name_glues.specs.Names.{glue_names, GluesReadable};

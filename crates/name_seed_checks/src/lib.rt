@@ -1,4 +1,6 @@
 // Seeds that are given by name: their sizes and counts, the tile that a name means, and what is refused of each.
+#![tactic(auto)]
+
 ghost use Rattle.std.specs.Prelude.{◌≡◌, true, ◌+◌, ◌<◌, ◌≤◌, length};
 ghost use Rattle.units.specs.Refusals.{check};
 ghost use Rattle.text_entries.specs.Entries.{entry_of, offsets_fit};

@@ -1,5 +1,5 @@
 -- Seeds that are given by name: the tests in their order, and the triples that they become. Assumes nothing.
-use Rattle.std.specs.Prelude.{ℕ, zero, suc, ◌+◌, List, [], ◌∷◌, ◌++◌, length}
+use Rattle.std.specs.Prelude.{ℕ, zero, suc, List, [], ◌∷◌, ◌++◌, length}
 use Rattle.units.specs.Refusals.{Verdict, ◌▷◌, if_passes}
 use Rattle.name_strands.specs.Names.{StrandNames}
 use Rattle.name_seed_checks.specs.Sizes.{SeedList, seed_count, seeds_sizes, seeds_reading}

@@ -1,4 +1,6 @@
 // Seeds that are given by name.
+#![tactic(auto)]
+
 ghost use Rattle.std.specs.Prelude.{◌≡◌, length, take, drop, ◌∷◌, ◌++◌, ◌<◌, ℕ, ◌+◌, ◌*◌, ◌≤◌};
 ghost use Rattle.units.specs.Limits.{most_side};
 ghost use Rattle.units.specs.Refusals.{check, Prints};

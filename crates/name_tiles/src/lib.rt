@@ -1,4 +1,6 @@
 // The name shown for a tile, by two calls of the same inputs: what is refused, and the part.
+#![tactic(auto)]
+
 ghost use Rattle.std.specs.Prelude.{◌≡◌};
 ghost use Rattle.units.specs.Refusals.{number_in};
 ghost use Rattle.name_strands.specs.Names.{strand_names};
