@@ -1,4 +1,6 @@
 // The legal strands of every bay, as sets.
+#![tactic(auto)]
+
 mod allowed;
 mod grid;
 

@@ -1,4 +1,6 @@
 // The energy of a layout.
+#![tactic(auto)]
+
 mod state;
 
 pub use state::{answered, state_g};
