@@ -1,5 +1,7 @@
 // All blocks of the ledger, and how many rows they need, over numbers that it is handed: sets as words, two tables of bonds and the energies of each
 // bay's strands. It knows nothing of glues. What is written is a stretch of the tables and nothing else, and a contract says so by one equation of lists.
+#![tactic(auto)]
+
 ghost use Rattle.std.specs.Prelude.{◌≡◌, ◌-◌, ◌*◌, ◌/◌, ◌≤◌, ◌<◌, length};
 ghost use Rattle.units.specs.Limits.{most_rows};
 ghost use Rattle.ledger_rows.specs.Scan.{EachHasStrand};
