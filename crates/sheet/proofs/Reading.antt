@@ -27,9 +27,13 @@ module _ (rows cols : ℕ) (text offsets tiles : List ℕ) where
   -- what the contract asks of the answer and of the slices at exit
   abbrev pub Read : CountAnswer → (o t : List ℕ) → Type 0
   Read r o t =
-      Prints (count_refusal r) (read_verdict rows cols text offsets tiles)
-      × ((r ≡ read_answer rows cols text offsets tiles)
-      × ((o ≡ offsets_after rows cols text offsets tiles) × (t ≡ tiles_after rows cols text offsets tiles)))
+      let lent = offsets in
+      record {
+        refusal : Prints (count_refusal r) (read_verdict rows cols text lent tiles);
+        answer : r ≡ read_answer rows cols text lent tiles;
+        offsets : o ≡ offsets_after rows cols text lent tiles;
+        tiles : t ≡ tiles_after rows cols text lent tiles;
+      }
 
   -- every refusal has the values of its row
   read_tabled : Tabled (read_verdict rows cols text offsets tiles)
@@ -52,7 +56,7 @@ module _ (rows cols : ℕ) (text offsets tiles : List ℕ) where
       let lists = sheet_lists rows cols text in
       let o_after = p ∙ ap (λ (w : Verdict). if_passes w (starts 0 lists) offsets) (sym e) in
       let t_after = q ∙ ap (λ (w : Verdict). if_passes w (front (all_tiles lists) tiles) tiles) (sym e) in
-      (printed.0, (printed.1, (o_after, t_after)))
+      record { refusal = printed.0; answer = printed.1; offsets = o_after; tiles = t_after }
 
   -- a refusal leaves the slices as they were
   pub refusing : (number : ℕ) (values : List ℕ) → read_verdict rows cols text offsets tiles ≡ refuses number values → (r : CountAnswer)
@@ -71,7 +75,12 @@ module _ (rows cols : ℕ) (text offsets tiles : List ℕ) where
       let lists = sheet_lists rows cols text in
       let same = refused (a_count (tile_count rows cols text)) v first refl in
       let printed = given (a_count (tile_count rows cols text)) v read_tabled same in
-      (printed.0, (printed.1, (refused_keeps v (starts 0 lists) offsets first refl, refused_keeps v (front (all_tiles lists) tiles) tiles first refl)))
+      record {
+        refusal = printed.0;
+        answer = printed.1;
+        offsets = refused_keeps v (starts 0 lists) offsets first refl;
+        tiles = refused_keeps v (front (all_tiles lists) tiles) tiles first refl;
+      }
 
   module _ (g : grid_verdict rows cols ≡ passes) (c : SheetCheck) (k : c ≡ sheet_check rows cols text) where
     line_is : c.line ≡ (sheet_fault cols 1 rows text).line

@@ -68,9 +68,11 @@ write_tabled rows columns offsets tiles text =
 
 -- what the contract asks
 abbrev pub Answers : (rows columns : ℕ) → (offsets tiles old : List ℕ) → CountAnswer → (new : List ℕ) → Type 0
-Answers rows columns offsets tiles old r new =
-    Prints (count_refusal r) (write_verdict rows columns offsets tiles old)
-    × ((r ≡ write_answer rows columns offsets tiles old) × (new ≡ text_after rows columns offsets tiles old))
+Answers rows columns offsets tiles old r new = record {
+  refusal : Prints (count_refusal r) (write_verdict rows columns offsets tiles old);
+  answer : r ≡ write_answer rows columns offsets tiles old;
+  text : new ≡ text_after rows columns offsets tiles old;
+}
 
 regroup : (u v w : Verdict) → u ▷ (v ▷ w) ≡ (u ▷ v) ▷ w
 regroup passes v w = refl
@@ -90,7 +92,7 @@ module _ (rows columns : ℕ) (offsets tiles old : List ℕ) where
   chain = regroup (grid_verdict rows columns) (offsets_verdict rows columns offsets tiles) room
 
   answered : {r : CountAnswer} {new : List ℕ} → r ≡ write_answer rows columns offsets tiles old → new ≡ text_after rows columns offsets tiles old → Answers rows columns offsets tiles old r new
-  answered e n = let p = given (a_count need) (write_verdict rows columns offsets tiles old) (write_tabled rows columns offsets tiles old) e in (p.0, (p.1, n))
+  answered e n = let p = given (a_count need) (write_verdict rows columns offsets tiles old) (write_tabled rows columns offsets tiles old) e in record { refusal = p.0; answer = p.1; text = n }
 
   pub lists_refuse : {x : Check} {r : Refusal} → x ≡ check tests → x ≡ Refused r → Answers rows columns offsets tiles old (CountRefused r) old
   lists_refuse e f =

@@ -1,4 +1,6 @@
 // Constraint sheets: read from comma-separated text into offsets and tile lists, and written back.
+#![tactic(auto)]
+
 mod grid;
 mod read;
 mod write;
