@@ -1,4 +1,6 @@
 // Answers the calls on sequences of a case file (docs/CASES.md): their fields are read, the library is asked, and the answer is put down.
+#![tactic(auto)]
+
 ghost use Rattle.std.specs.Prelude.{◌≤◌, ◌≡◌, length};
 ghost use Rattle.case_text.specs.Fields.{call_name};
 ghost use Rattle.case_replies.specs.Replies.{is_known, answer_end};
