@@ -1,1 +1,2 @@
 // What the numbers of a registering mean; its theorems are in proofs/.
+#![tactic(auto)]

@@ -1,4 +1,6 @@
 // Registering: from the names of glues to their numbers, and to the list of bases.
+#![tactic(auto)]
+
 ghost use Rattle.std.specs.Prelude.{◌≡◌, length};
 ghost use Rattle.units.specs.Refusals.{Prints};
 ghost use Rattle.units.specs.Answers.{count_refusal};
