@@ -24,6 +24,11 @@ module _ {A : Type 0} where
       let all : m ≡ sets l 0 xs = e ∙ rw (n, take-length l) in
       rw (n, all, drop-length l, append-nil (sets l 0 xs), sets_behind v l 0 xs)
 
+  -- it is as long as before
+  pub long_behind : (l : List A) (v : A) (xs m : List A) → 0 < length l → m ≡ sets (take (length (set l 0 v) - 1) (drop 1 (set l 0 v))) 0 xs
+      → length (take 1 (set l 0 v) ++ (m ++ drop (length (set l 0 v) - 1) (drop 1 (set l 0 v)))) ≡ length l
+  long_behind l v xs m h e = ap length (put_behind l v xs m h e) ∙ length-sets l 0 (v ∷ xs)
+
 module _ (l : List Float) (records : ℕ) (sheet : List ℕ) (m : List Float) (h : records < length l)
     (e : m ≡ sets (take (length (set l 0 (of_bits binary64 0)) - 1) (drop 1 (set l 0 (of_bits binary64 0)))) 0 (map (value_as logarithms) (log_fields records sheet))) where
   -- the table afterwards
@@ -33,6 +38,3 @@ module _ (l : List Float) (records : ℕ) (sheet : List ℕ) (m : List Float) (h
   pub logs_put : all ≡ sets l 0 (logs_of records sheet)
   unfolding logs_of of_bits decimal round
   logs_put = put_behind l (of_bits binary64 0) (map (value_as logarithms) (log_fields records sheet)) m (omega arith) e
-
-  pub logs_long : length all ≡ length l
-  logs_long = ap length logs_put ∙ length-sets l 0 (logs_of records sheet)

@@ -1,8 +1,10 @@
 -- `sheet_strands::put_logs` meets its contract: the part behind the first number is lent. Assumes nothing.
+use mathlib.Core.List.{map}
 use native.Mathlib.Omega.{arith}
 use lib.ListN.{length-set, length-take, length-drop}
-use Rattle.sheet_strands.specs.Strands.{log_fault}
-use Rattle.sheet_strands.proofs.Logs.{logs_put, logs_long}
+use Rattle.sheet_numbers.specs.Floats.{logarithms, value_as}
+use Rattle.sheet_strands.specs.Strands.{log_fields, log_fault}
+use Rattle.sheet_strands.proofs.Logs.{logs_put, long_behind}
 use Rattle.sheet_strands.proofs.put_logs.Goals as goal
 
 pub slice_bounds-put_logarithms-count : goal.slice_bounds-put_logarithms-count
@@ -16,7 +18,7 @@ put_logarithms-requires c = simp (length-take, length-drop, length-set) (omega a
 
 pub shape_of-logs : goal.shape_of-logs
 shape_of-logs c = let a = c.args in
-    logs_long a.logs.now a.records a.sheet.now _ c.requires c.put_logarithms.ensures.out_after
+    long_behind a.logs.now _ (map (value_as logarithms) (log_fields a.records a.sheet.now)) _ (omega arith) c.put_logarithms.ensures.out_after
 
 pub returns : goal.returns
 unfolding log_fault
