@@ -1,4 +1,6 @@
 // The way back from a row of the last block to the filling that the notes lead to.
+#![tactic(auto)]
+
 ghost use Rattle.std.specs.Prelude.{◌≡◌, ◌+◌, ◌%◌, ◌<◌, length, get_or};
 ghost use Rattle.ledger_row_choice.specs.Row.{strands_of};
 ghost use Rattle.ledger_fill.specs.Handed.{set_scan};
