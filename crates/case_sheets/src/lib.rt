@@ -1,4 +1,6 @@
 // Answers the calls on constraint sheets of a case file (docs/CASES.md).
+#![tactic(auto)]
+
 mod lines;
 mod reading;
 mod writing;
