@@ -1,6 +1,8 @@
 // A layout drawn in SVG, put into a lent text as far as it fits.
 //
 // Each `put_` function puts its part at the place `at`, leaves the rest of the text as it is, and gives back the next place.
+#![tactic(auto)]
+
 mod frame;
 
 ghost use Rattle.std.specs.Prelude.{◌≡◌, ◌*◌, ◌≤◌, length, get_or, drop};
