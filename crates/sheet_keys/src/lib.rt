@@ -2,6 +2,8 @@
 //
 // A key gives both numbers and no sequence, or a sequence and neither number. The sheet is first tested, and then read into the
 // tables that the keys are taken from.
+#![tactic(auto)]
+
 mod key_faults;
 mod key_tables;
 
