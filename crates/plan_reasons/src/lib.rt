@@ -1,4 +1,6 @@
 // Why a bay holds what it holds, and for each strand whether it is legal there or which rule forbids it.
+#![tactic(auto)]
+
 mod bays;
 mod rules;
 
