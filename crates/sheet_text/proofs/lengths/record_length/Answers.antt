@@ -1,7 +1,6 @@
 -- `lengths::record_length` meets its contract: the invariant is that what is left of the record is still to be added. Assumes nothing.
-use Prim.Native.Nat.{◌-◌}
 use mathlib.Core.List.{List}
-use Prim.Native.Nat.{ℕ}
+use Prim.Native.Nat.{ℕ, ◌-◌}
 use mathlib.Core.Path.{ap, ◌∙◌}
 use lib.ListN.{length}
 use Rattle.bay_lists.specs.Lists.{list_of, lists}
