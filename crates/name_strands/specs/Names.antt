@@ -1,5 +1,5 @@
 -- The names of the strands, and what is tested of them. Assumes nothing.
-use Rattle.std.specs.Prelude.{ℕ, ◌+◌, ◌-◌, ◌≤◌, ◌≡◌, Bool, true, not, ◌&&◌, List, [], ◌∷◌, eqb, length, get_or}
+use Rattle.std.specs.Prelude.{ℕ, ◌+◌, ◌≤◌, ◌≡◌, Bool, true, not, ◌&&◌, List, [], ◌∷◌, eqb, length, get_or}
 use Rattle.units.specs.Limits.{most_strands, from_one_to}
 use Rattle.units.specs.Refusals.{Verdict, refuse_if}
 use Rattle.text_entries.specs.Entries.{entry_of, offsets_fit, are_flags, entries_sized, same_bytes}

@@ -16,7 +16,7 @@ use Rattle.units.specs.declared.EnergyAnswer.TheVariants.{Energy, Refused as Ene
 use Rattle.units.specs.declared.HundredthsAnswer.{HundredthsAnswer}
 use Rattle.units.specs.declared.HundredthsAnswer.TheVariants.{Hundredths, Refused as HundredthsRefused}
 use Rattle.units.specs.declared.CountAnswer.{CountAnswer}
-use Rattle.units.specs.declared.CountAnswer.TheVariants.{Count, Refused as CountRefused}
+use Rattle.units.specs.declared.CountAnswer.TheVariants.{Refused as CountRefused}
 use Rattle.units.specs.Refusals.{Verdict, passes, refuses, refusal, check, Prints}
 use Rattle.units.specs.Answers.{base_energy_answer, energy_answer, hundredths_answer, count_answer, base_energy_refusal, energy_refusal, hundredths_refusal, count_refusal}
 use Rattle.units.proofs.Verdicts.{Tabled, prints}

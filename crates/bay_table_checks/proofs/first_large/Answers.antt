@@ -1,5 +1,4 @@
 -- `bay_table_checks::first_large` meets its contract. The invariant: the first is found by going on from i. Assumes nothing.
-use Prim.Native.Nat.{◌-◌}
 use mathlib.Core.Path.{◌∙◌, sym}
 use native.Mathlib.Nat.{zero-add}
 use native.Mathlib.Omega.{arith}

@@ -1,5 +1,4 @@
 -- `dna_letters::first_bad` meets its contract. The invariant: the first bad byte is found by going on from i. Assumes nothing.
-use Prim.Native.Nat.{◌-◌}
 use mathlib.Core.Path.{◌∙◌, sym}
 use native.Mathlib.Omega.{arith}
 use borrow.Author.Tests.{not-true, not-false}

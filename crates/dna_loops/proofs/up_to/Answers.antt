@@ -1,5 +1,4 @@
 -- `dna_loops::up_to` meets its contract. The invariant: what is left to look through has the answer. Assumes nothing.
-use Prim.Native.Nat.{◌≤◌}
 use mathlib.Core.Path.{◌∙◌, sym, refl}
 use native.Mathlib.Omega.{arith}
 use lib.Dec.{lit≤}

@@ -1,5 +1,4 @@
 -- `name_base_list::bases_fit` meets its contract. The invariant: the bases that are left decide. Assumes nothing.
-use Prim.Native.Nat.{◌-◌}
 use mathlib.Core.Path.{◌∙◌, sym}
 use native.Mathlib.Nat.{sub-zero}
 use native.Mathlib.Omega.{arith}

@@ -1,10 +1,8 @@
 -- `name_glues::first_starred` meets its contract. The invariant: the bays that are left have the answer. Assumes nothing.
-use Prim.Native.Nat.{◌-◌}
 use mathlib.Core.Path.{◌∙◌, sym}
 use native.Mathlib.Nat.{sub-zero}
 use native.Mathlib.Omega.{arith}
 use Rattle.text_entries.proofs.InOrder.{here, later, nowhere}
-use Rattle.name_glues.specs.Starred.{is_starred}
 use Rattle.name_glues.proofs.first_starred.Goals as goal
 
 pub loop-bay-init : goal.loop-bay-init

@@ -1,5 +1,5 @@
 -- `run_scan_tables::fill_scan` meets its contract. The invariant: the first k sets of the scan are written. Assumes nothing.
-use Prim.Native.Nat.{ℕ, ◌*◌, ◌-◌}
+use Prim.Native.Nat.{ℕ, ◌*◌}
 use mathlib.Core.Path.{◌≡◌, refl, sym, ◌∙◌, ap}
 use native.Mathlib.Nat.{mul-le-mul}
 use native.Mathlib.Omega.{arith}

@@ -1,5 +1,5 @@
 -- `run_scan_tables::lay_out` meets its contract. The invariant: the bays before are laid out. Assumes nothing.
-use Prim.Native.Nat.{ℕ, ◌*◌, ◌-◌}
+use Prim.Native.Nat.{ℕ, ◌*◌}
 use mathlib.Core.Path.{◌≡◌, refl, ◌∙◌, ap}
 use native.Mathlib.Omega.{arith}
 use lib.ListN.{length, get_or, length-set}

@@ -1,5 +1,4 @@
 -- `sheet_fields::plain_end` meets its contract. The loop's invariant: the plain bytes from `i` on end where those from `at` on do. Assumes nothing.
-use Prim.Native.Nat.{◌-◌}
 use mathlib.Core.Path.{refl, sym, ◌∙◌}
 use native.Mathlib.Omega.{arith}
 use borrow.Author.Tests.{not-true, not-false}

@@ -1,5 +1,4 @@
 -- `sheet_fields::quoted_end` meets its contract. The loop's invariant: the quote that closes is the same from `i` on as from `at` on. Assumes nothing.
-use Prim.Native.Nat.{◌-◌}
 use mathlib.Core.Path.{refl}
 use native.Mathlib.Omega.{arith}
 use Rattle.sheet_fields.proofs.Scanning.{quoted_past, quoted_stops, quoted_next, quoted_room}

@@ -1,5 +1,4 @@
 -- `sheet_files::read_open` meets its contract: what was read lies within the room, and a read that gives no byte ends the loop. Assumes nothing.
-use Prim.Native.Nat.{◌-◌}
 use mathlib.Core.Bool.{false≢true, true≢false}
 use native.Mathlib.Omega.{arith}
 use Rattle.io.proofs.Counting.{prefix_len_of_le}

@@ -1,6 +1,5 @@
 -- `sheet_records::check_record` meets its contract. The loop's invariant is `InRecord`: the fields passed are the record's first ones, without a
 -- fault. Assumes nothing.
-use Prim.Native.Nat.{◌-◌}
 use Rattle.sheet_fields.specs.Runs.{is_sound}
 use Rattle.sheet_fields.proofs.Faults.{record-starts}
 use Rattle.sheet_records.proofs.Records.{record-stops, record-goes-on, record-ends}

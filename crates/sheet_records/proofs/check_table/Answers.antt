@@ -1,6 +1,5 @@
 -- `sheet_records::check_table` meets its contract. The loop's invariant is `InTable`: the records passed are the table's first ones, without a fault.
 -- Assumes nothing.
-use Prim.Native.Nat.{◌-◌}
 use Rattle.sheet_records.proofs.Tables.{table_starts, table_too_long, table_stops, table_goes_on, table_ends}
 use Rattle.sheet_records.proofs.check_table.Goals as goal
 

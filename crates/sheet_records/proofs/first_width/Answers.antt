@@ -1,5 +1,4 @@
 -- `sheet_records::first_width` meets its contract. The loop's invariant is `Counting`. Assumes nothing.
-use Prim.Native.Nat.{◌-◌}
 use borrow.Author.Tests.{not-true, not-false}
 use Rattle.sheet_records.proofs.Widths.{no_record, counting_starts, counting_stops, counting_goes_on, counting_ends}
 use Rattle.sheet_records.proofs.first_width.Goals as goal

@@ -1,5 +1,4 @@
 -- `sheet_records::place_after` meets its contract. The loop's invariant is `Passing`. Assumes nothing.
-use Prim.Native.Nat.{◌-◌}
 use mathlib.Core.Path.{ap}
 use Rattle.sheet_fields.specs.declared.Field.{Field}
 use Rattle.sheet_fields.proofs.Passing.{passing_starts, passing_goes_on, passing_ends}

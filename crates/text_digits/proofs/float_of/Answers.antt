@@ -1,7 +1,6 @@
 -- `text_digits::float_of` meets its contract: its tests are those of a NaN's pattern. Assumes nothing.
 use Prim.Native.Nat.{ℕ, ◌/◌, ◌%◌}
 use mathlib.Core.Bool.{true, false}
-use mathlib.Core.Logic.{⊎_elim}
 use mathlib.Core.Path.{◌≡◌, refl, sym, ◌∙◌}
 use borrow.Author.Tests.{eq-eqb, ne_eqb}
 use lib.Ieee.{Float, nan, inf, fin, binary64, div, of_bits, nan_bits, is_nan}
@@ -39,7 +38,7 @@ returns-then-below-ne0 c = let bits = c.args.bits in zeros ∙ nan_is (of_bits b
 pub float_from_bits-result : goal.float_from_bits-result
 float_from_bits-result c = let bits = c.args.bits in
     let plain : nan_bits binary64 bits ≡ false = elim c.if-exponent-eq2047.branch [
-      then-exponent-eq2047+else-below-ne0 w ↦ no_digit bits w.if-exponent-eq2047.true w.if-below-ne0.false
+      | then-exponent-eq2047+else-below-ne0 w ↦ no_digit bits w.if-exponent-eq2047.true w.if-below-ne0.false
       | else-exponent-eq2047 w ↦ no_ones bits w.if-exponent-eq2047.false
     ] in
     rw plain tt

@@ -1,6 +1,6 @@
 -- `text_digits::whole` meets its contract. The loop's invariant is what `Reading` says of the place that it has come to. Assumes nothing.
 use native.Mathlib.Omega.{arith}
-use Prim.Native.Nat.{◌+◌, ◌-◌, ◌*◌, ◌^◌, ◌<◌}
+use Prim.Native.Nat.{◌+◌, ◌*◌, ◌^◌, ◌<◌}
 use Rattle.text_digits.proofs.Worth.{fits_more, passes, reading_starts, reading_ends, reading_stops, reading_passes, reading_goes_on}
 use Rattle.text_digits.proofs.whole.Goals as goal
 

@@ -1,5 +1,4 @@
 -- `text_entries::are_flags` meets its contract. The invariant: all that is left decides. Assumes nothing.
-use Prim.Native.Nat.{◌-◌}
 use mathlib.Core.Path.{◌∙◌, sym, refl}
 use native.Mathlib.Omega.{arith}
 use Rattle.text_entries.proofs.Walk.{flag_passes, flag_fails, flags_end}

@@ -1,5 +1,4 @@
 -- `text_entries::offsets_fit` meets its contract. The invariant: all that is left decides, after the last offset. Assumes nothing.
-use Prim.Native.Nat.{◌-◌}
 use mathlib.Core.Path.{◌∙◌, sym, refl}
 use native.Mathlib.Omega.{arith}
 use borrow.Author.Rules.{scaled_Fits}

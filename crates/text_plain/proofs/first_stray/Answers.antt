@@ -1,5 +1,4 @@
 -- `text_plain::first_stray` meets its contract: the invariant is that the characters before the place are sound. Assumes nothing.
-use Prim.Native.Nat.{◌-◌}
 use native.Mathlib.Omega.{arith}
 use Rattle.text_plain.proofs.Strays.{walk_starts, walk_ends, walk_fits, walk_stops, walk_goes_on}
 use Rattle.text_plain.proofs.first_stray.Goals as goal

@@ -1,5 +1,4 @@
 -- `text_put::put_form` meets its contract: the invariant is that what is left of the form ends it. Assumes nothing.
-use Prim.Native.Nat.{◌-◌}
 use Rattle.text_put.specs.Forms.{filled_byte, filled}
 use Rattle.text_put.proofs.Putting.{starts_anywhere, byte_goes_on, bytes_end}
 use Rattle.text_put.proofs.put_form.Goals as goal

@@ -1,5 +1,4 @@
 -- `text_put::put_text` meets its contract. The loop's invariant is what `Copying` says of the bytes that are copied. Assumes nothing.
-use Prim.Native.Nat.{◌-◌}
 use native.Mathlib.Omega.{arith}
 use Rattle.text_put.proofs.Putting.{put_nowhere, place_nowhere, copying_starts, copying_goes_on, copying_ends, place_copied}
 use Rattle.text_put.proofs.put_text.Goals as goal
