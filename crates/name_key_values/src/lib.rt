@@ -1,4 +1,6 @@
 // What a key gives, two floats or a sequence: the energy that it comes to, and what is refused of it.
+#![tactic(auto)]
+
 ghost use Rattle.std.specs.Prelude.{◌≡◌, ◌+◌, ◌<◌, length};
 ghost use Rattle.units.specs.Refusals.{check};
 ghost use Rattle.name_key_values.specs.Values.{values, numbers_at, sequence_at, value_at, gs_or_seq_to_gs, key_energy};

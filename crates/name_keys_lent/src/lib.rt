@@ -1,4 +1,6 @@
 // What is lent to a list of keys: the lengths of its slices, its flags and its offsets.
+#![tactic(auto)]
+
 ghost use Rattle.std.specs.Prelude.{◌≡◌, ◌+◌, ◌<◌, ◌≤◌, ◌^◌, length};
 ghost use Rattle.units.specs.Refusals.{check};
 ghost use Rattle.name_key_values.specs.Values.{values};
