@@ -1,4 +1,6 @@
 // The whole run over numbers that it is handed: all blocks, the first least row of the last one, and the way back from it.
+#![tactic(auto)]
+
 ghost use Rattle.std.specs.Prelude.{◌≡◌, ◌<◌, length};
 ghost use Rattle.ledger_fill.specs.Handed.{run_scan, Fillable};
 ghost use Rattle.ledger_run.specs.Run.{LedgerRan};

@@ -1,0 +1,12 @@
+-- `ledger_run::clear::clear_notes` meets its contract. The invariant: the first i places are cleared, and the rest is as it was. Assumes nothing.
+use mathlib.Core.Path.{◌≡◌}
+use Prim.Native.Nat.{◌-◌, ◌≤◌}
+use lib.ListN.{replicate}
+use Rattle.ledger_block.specs.Block.{over}
+use Rattle.ledger_run.proofs.clear.clear_notes.Given as goal
+
+abbrev pub invariant-loop-i : goal.invariant-loop-i
+invariant-loop-i l = (l.i ≤ l.count) × (l.notes ≡ over l.initial.notes 0 (replicate l.i 0))
+
+abbrev pub decreases-loop-i : goal.decreases-loop-i
+decreases-loop-i l = l.count - l.i
