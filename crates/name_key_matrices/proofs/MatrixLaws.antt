@@ -30,9 +30,19 @@ front_more n x xs h e = rw (e, add-one n) (front_suc n x xs h)
 pub front_all : {A : Type 0} {ys : List A} (n : ℕ) (x : A) (xs : List A) → n ≡ length xs → ys ≡ replicate n x ++ drop n xs → ys ≡ replicate (length xs) x
 front_all n x xs all e = e ∙ rw (all, drop-length xs) (append-nil (replicate (length xs) x))
 
+-- the two parts of an energy
+abbrev pub dg : BaseEnergy → Float
+dg energy = energy.dg
+
+abbrev pub ds : BaseEnergy → Float
+ds energy = energy.ds
+
 -- a cell lies within its matrix
 pub cell_within : (side i j : ℕ) → i < side → j < side → i * side + j < side * side
 cell_within side i j h k = digits_lt h k
+
+pub cell_inside : (side i j : ℕ) {cells : ℕ} → (i < side) × (j < side) → cells ≡ side * side → i * side + j < cells
+cell_inside side i j h e = rw e (cell_within side i j h.0 h.1)
 
 pub glues_within : (side : ℕ) {joined : Joined} (i j : ℕ) → joined ≡ Glues i j → InSide side joined → (i < side) × (j < side)
 glues_within side i j e h = rw e at h

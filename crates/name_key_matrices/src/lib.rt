@@ -1,9 +1,11 @@
 // The two energy matrices, each with a row and a column for each glue, row by row.
+#![tactic(auto)]
+
 ghost use Rattle.std.specs.Prelude.{◌≡◌, ◌*◌, ◌<◌, length, replicate};
 ghost use Rattle.units.specs.Decimals.{plus};
 ghost use Rattle.name_key_values.specs.Values.{values};
 ghost use Rattle.name_keys.specs.Names.{key_names};
-ghost use Rattle.name_key_matrices.specs.Matrices.{set_both, set_joined, InSide, delta_g, delta_s};
+ghost use Rattle.name_key_matrices.specs.Matrices.{set_both, set_joined, InSide, delta_g as delta_g_matrix, delta_s as delta_s_matrix};
 ghost use Rattle.name_keys_lent.specs.Lent.{Lent};
 
 use name_key_values::key_energy;
@@ -72,10 +74,10 @@ pub fn set_keys(
         Lent n v (length delta_g.old) (length entropy.old) }
     ensures delta_g_after { let n = key_names text.now offsets.now paired.now bases.now count in
         let v = values kinds.now numbers.now sequences.now sequence_offsets.now in
-        delta_g.new ≡ delta_g n v }
+        delta_g.new ≡ delta_g_matrix n v }
     ensures entropy_after { let n = key_names text.now offsets.now paired.now bases.now count in
         let v = values kinds.now numbers.now sequences.now sequence_offsets.now in
-        entropy.new ≡ delta_s n v }
+        entropy.new ≡ delta_s_matrix n v }
 {
     clear(delta_g);
     clear(entropy);
