@@ -1,4 +1,6 @@
 // From a strands' sheet and a scaffold's sheet to glue numbers: the names of both are laid one after the other and registered.
+#![tactic(auto)]
+
 ghost use Rattle.std.specs.Prelude.{◌+◌, ◌-◌, ◌*◌, ◌≤◌, ◌<◌, length, take, set};
 ghost use Rattle.name_glues.specs.Names.{glue_names};
 ghost use Rattle.sheet_names.specs.Appended.{Appended};
