@@ -1,4 +1,6 @@
 // Calls that say why each bay of a system holds what it holds, and which rule forbids each strand at one bay.
+#![tactic(auto)]
+
 mod bays;
 mod strands;
 
