@@ -1,9 +1,11 @@
 // The call: energy keys fill the two energy matrices.
+#![tactic(auto)]
+
 ghost use Rattle.std.specs.Prelude.{◌≡◌, length};
 ghost use Rattle.units.specs.Refusals.{check, if_passes, Prints};
 ghost use Rattle.name_key_values.specs.Values.{values};
 ghost use Rattle.name_keys.specs.Names.{key_names};
-ghost use Rattle.name_key_matrices.specs.Matrices.{delta_g, delta_s};
+ghost use Rattle.name_key_matrices.specs.Matrices.{delta_g as delta_g_matrix, delta_s as delta_s_matrix};
 ghost use Rattle.name_energy_keys.specs.Keys.{keys_verdict};
 
 use name_key_matrices::set_keys;
@@ -34,10 +36,10 @@ pub fn energy_keys(
         result ≡ check (keys_verdict n v (length delta_g.old) (length entropy.old)) }
     ensures energies { let n = key_names text.now offsets.now paired.now bases.now count in
         let v = values kinds.now numbers.now sequences.now sequence_offsets.now in
-        delta_g.new ≡ if_passes (keys_verdict n v (length delta_g.old) (length entropy.old)) (delta_g n v) delta_g.old }
+        delta_g.new ≡ if_passes (keys_verdict n v (length delta_g.old) (length entropy.old)) (delta_g_matrix n v) delta_g.old }
     ensures entropies { let n = key_names text.now offsets.now paired.now bases.now count in
         let v = values kinds.now numbers.now sequences.now sequence_offsets.now in
-        entropy.new ≡ if_passes (keys_verdict n v (length delta_g.old) (length entropy.old)) (delta_s n v) entropy.old }
+        entropy.new ≡ if_passes (keys_verdict n v (length delta_g.old) (length entropy.old)) (delta_s_matrix n v) entropy.old }
 {
     match check_lent(
         text,
