@@ -1,5 +1,7 @@
 // What a reader of sdc2d.rs looks for, under its names: the parts of `from_params` as calls (glue names, energy keys, seeds, tile names), the tests of a
 // system, and the bonds of its glues. Every call is total. Nothing stands here but the names; the crates below have the code and the contracts.
+#![tactic(auto)]
+
 pub use bay_binding::friends_btm;
 pub use bay_bonds::{bond_ns, bond_we, bond_with_scaffold, glue_glue_dg};
 pub use bay_glues::{
