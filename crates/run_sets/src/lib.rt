@@ -1,4 +1,6 @@
 // The run over sets that stand row by row: 8, 9 and 10, or the least energy, its layout and the ledger.
+#![tactic(auto)]
+
 ghost use Rattle.std.specs.Prelude.{[], ◌*◌, ◌≤◌, length};
 ghost use Rattle.bay_system.specs.System.{system};
 ghost use Rattle.bay_bonds.specs.Readable.{Readable};
