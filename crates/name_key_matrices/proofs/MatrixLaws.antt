@@ -41,8 +41,9 @@ ds energy = energy.ds
 pub cell_within : (side i j : ℕ) → i < side → j < side → i * side + j < side * side
 cell_within side i j h k = digits_lt h k
 
-pub cell_inside : (side i j : ℕ) {cells : ℕ} → (i < side) × (j < side) → cells ≡ side * side → i * side + j < cells
-cell_inside side i j h e = rw e (cell_within side i j h.0 h.1)
+-- both cells of two glues lie within a matrix of that size
+pub cells_inside : (side i j : ℕ) {cells : ℕ} → (i < side) × (j < side) → cells ≡ side * side → (i * side + j < cells) × (j * side + i < cells)
+cells_inside side i j h e = rw e (cell_within side i j h.0 h.1, cell_within side j i h.1 h.0)
 
 pub glues_within : (side : ℕ) {joined : Joined} (i j : ℕ) → joined ≡ Glues i j → InSide side joined → (i < side) × (j < side)
 glues_within side i j e h = rw e at h
@@ -55,7 +56,7 @@ length_joined side Nothing x matrix = refl
 length_matrix : (energy_part : BaseEnergy → Float) (n : KeyNames) (v : Values) (k : ℕ) → length (matrix_to energy_part n v k) ≡ side_of n.count * side_of n.count
 unfolding matrix_to
 length_matrix energy_part n v zero = length-replicate _ _
-length_matrix energy_part n v (suc k) = length_joined (side_of n.count) (key_joined n k) (energy_part (key_energy v k)) (matrix_to energy_part n v k) ∙ length_matrix energy_part n v k
+length_matrix energy_part n v (suc k) = length_joined _ _ _ (matrix_to energy_part n v k) ∙ length_matrix energy_part n v k
 
 module _ (energy_part : BaseEnergy → Float) (n : KeyNames) (v : Values) where
   -- no key yet
