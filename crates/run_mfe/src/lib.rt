@@ -1,4 +1,6 @@
 // The least-energy run of a system: the call, and the run over sets that are worked out aside.
+#![tactic(auto)]
+
 ghost use Rattle.std.specs.Prelude.{◌≡◌, [], length};
 ghost use Rattle.units.specs.Refusals.{passes, Prints};
 ghost use Rattle.units.specs.Answers.{energy_refusal};
