@@ -24,18 +24,24 @@ use Rattle.name_registering.specs.Steps.{Registered}
 use Rattle.name_register_input.proofs.Passed.{bays}
 
 -- every refusal has the values of its row
-input_tabled : (q : Request) → Tabled (input_verdict q)
-input_tabled q =
-    tabled_then (request_sizes q) (request_reading q.names) (tabled_if (not (is_sized q)) 1 [] refl) (tabled_if (not (is_readable q.names)) 17 [] refl)
+sizes_tabled : (q : Request) → Tabled (request_sizes q)
+sizes_tabled q = tabled_if (not (is_sized q)) 1 [] refl
 
-registered_tabled : (q : Request) → Tabled (registered_verdict q.names q.strands (bay_count q))
-registered_tabled q =
+reading_tabled : (q : Request) → Tabled (request_reading q.names)
+reading_tabled q = tabled_if (not (is_readable q.names)) 17 [] refl
+
+count_tabled : (q : Request) → Tabled (count_verdict (firsts_of q.names q.strands (bay_count q)))
+count_tabled q =
     let es = firsts_of q.names q.strands (bay_count q) in
+    tabled_if (ltb most_glues (length es * 2 + 1)) 15 (get_or es most_bases 0 ∷ []) refl
+
+stars_tabled : (q : Request) → Tabled (stars_verdict q.names (first_bay q.strands) (bay_count q))
+stars_tabled q =
     let bay = first_starred q.names (first_bay q.strands) (bay_count q) in
-    tabled_then (count_verdict es) (stars_verdict q.names (first_bay q.strands) (bay_count q)) (tabled_if (ltb most_glues (length es * 2 + 1)) 15 (get_or es most_bases 0 ∷ []) refl) (tabled_if (ltb bay (bay_count q)) 16 (bay ∷ []) refl)
+    tabled_if (ltb bay (bay_count q)) 16 (bay ∷ []) refl
 
 register_tabled : (q : Request) → Tabled (register_verdict q)
-register_tabled q = tabled_then (input_verdict q) (registered_verdict q.names q.strands (bay_count q)) (input_tabled q) (registered_tabled q)
+register_tabled q = search (tabled_then, sizes_tabled q, reading_tabled q, count_tabled q, stars_tabled q)
 
 -- the clauses of the call: the refusal, the answer, and each table from what it held
 abbrev pub Answered : Request → CountAnswer → (glues scaffold bases glues' scaffold' bases' : List ℕ) → Type 0
