@@ -1,4 +1,6 @@
 // Answers the call `bonds` of a case file (docs/CASES.md) on a system that was read: the bonds of its strands, strand 0 left out, if it passes its tests.
+#![tactic(auto)]
+
 ghost use Rattle.std.specs.Prelude.{◌<◌, length};
 ghost use Rattle.bay_bonds.specs.Readable.{Readable};
 ghost use Rattle.units.specs.Refusals.{check};

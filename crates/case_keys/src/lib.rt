@@ -1,4 +1,6 @@
 // Answers the call on energy keys of a case file (docs/CASES.md).
+#![tactic(auto)]
+
 mod keys;
 mod matrices;
 mod reading;

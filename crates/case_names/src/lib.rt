@@ -1,5 +1,7 @@
 // Answers the calls on glue names of a case file (docs/CASES.md): fields are read, the library is asked with tables of sevens, and the
 // answer is put down.
+#![tactic(auto)]
+
 mod register;
 
 ghost use Rattle.std.specs.Prelude.{◌≡◌};

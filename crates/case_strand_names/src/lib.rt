@@ -1,4 +1,6 @@
 // Answers the calls on names of strands of a case file (docs/CASES.md): one tile's name, and seeds by their names.
+#![tactic(auto)]
+
 mod names;
 mod seeds;
 mod tiles;

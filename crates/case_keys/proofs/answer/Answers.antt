@@ -1,0 +1,10 @@
+-- `case_keys::answer` meets its contract: the call's name is tested, and no other call is answered; the answer lies in the lent text. Assumes nothing.
+use mathlib.Core.Path.{sym, ◌∙◌}
+use borrow.Author.Rules.{rules}
+use Rattle.case_keys.proofs.answer.Goals as goal
+
+pub returns-then-same : goal.returns-then-same
+returns-then-same c = (rw (← c.call_name.ensures, sym c.same.ensures ∙ c.if-same.true), search rules)
+
+pub returns : goal.returns
+returns c = (rw (← c.call_name.ensures, sym c.same.ensures ∙ c.if-same.false), search rules)
