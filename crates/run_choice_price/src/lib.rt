@@ -1,4 +1,6 @@
 // The price of a choice: the least energy of a layout that has a given strand on a given bay.
+#![tactic(auto)]
+
 ghost use Rattle.std.specs.Prelude.{◌≡◌, [], ◌≤◌, ◌<◌, leb, length, drop};
 ghost use Rattle.units.specs.Refusals.{check, refuse_if, passes, Prints};
 ghost use Rattle.units.specs.Answers.{energy_refusal};
