@@ -1,5 +1,6 @@
 // The least-energy run for callers in C or Rust, whose archive `run_export_c` is: sizes as plain numbers, slices as pointer and length, and the answer as a struct of numbers.
 #![tactic(auto)]
+
 ghost use Rattle.std.specs.Prelude.{◌≡◌, length};
 ghost use Rattle.units.specs.Refusals.{number_in};
 ghost use Rattle.bay_system.specs.System.{system};
