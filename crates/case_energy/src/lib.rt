@@ -1,4 +1,6 @@
 // Answers the call `state_g` of a case file (docs/CASES.md) on a system that was read.
+#![tactic(auto)]
+
 ghost use Rattle.text_put.specs.Puts.{Put};
 ghost use Rattle.bay_system.specs.System.{system};
 ghost use Rattle.case_energy.specs.Answer.{answer_text};

@@ -1,5 +1,7 @@
 // Answers the call `mfe_configuration` of a case file (docs/CASES.md) on a system that was read: its need is asked with empty tables, then tables
 // of sevens are lent, as long as the case says, and what became of them is told.
+#![tactic(auto)]
+
 mod lines;
 
 use bay_system::Sizes;

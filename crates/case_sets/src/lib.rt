@@ -1,4 +1,6 @@
 // Answers the call `allowed_tiles` of a case file (docs/CASES.md) on a system that was read: the library is asked with a table of sevens.
+#![tactic(auto)]
+
 ghost use Rattle.std.specs.Prelude.{◌≤◌, length};
 ghost use Rattle.text_put.specs.Puts.{Put};
 ghost use Rattle.bay_system.specs.System.{system};

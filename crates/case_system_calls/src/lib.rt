@@ -1,5 +1,7 @@
 // Answers the calls on systems of a case file (docs/CASES.md): a system is read from its line once, and what is asked of it goes to the
 // library of its call.
+#![tactic(auto)]
+
 ghost use Rattle.std.specs.Prelude.{◌≡◌};
 ghost use Rattle.case_text.specs.Fields.{call_name};
 ghost use Rattle.case_replies.specs.Replies.{is_known};
