@@ -8,7 +8,7 @@ crates.txt alone. Two rooms that use each other are a fault of the house, and th
 import sys
 from html import escape
 
-KIT = {"check", "io", "os", "libc", "bytes"}
+KIT = {"check", "io"}
 PLACES = {
     "floats": "ground floor", "sets": "ground floor", "units": "ground floor",
     "utils": "doors", "sdc_common": "doors", "sdc2d": "doors", "sdc2d_thermo": "doors",
