@@ -1,7 +1,12 @@
 -- What is known of a file that was read into a room. Assumes nothing.
-use Rattle.std.specs.Prelude.{ℕ, ◌<◌, ◌≡◌, Bool, true, false, List, length, ℤ, pos, negsuc}
+use Rattle.std.specs.Prelude.{ℕ, ◌-◌, ◌^◌, ◌<◌, ◌≡◌, min, Bool, true, false, List, length, ℤ, pos, negsuc, Result, Ok, Err}
 
--- a read failed where the C library's answer is negative
+-- a read as one number: how many bytes, as far as the number goes, or -1 where it failed
+abbrev pub answer_of : {E : Type 0} → Result ℕ E → ℤ
+answer_of (Ok n) = pos (min n (2 ^ 63 - 1))
+answer_of (Err e) = negsuc 0
+
+-- a read failed where that number is negative
 abbrev pub fails : ℤ → Bool
 fails (pos n) = false
 fails (negsuc n) = true

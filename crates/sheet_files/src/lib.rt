@@ -1,11 +1,11 @@
 // The files of a folder, each read whole into a lent slice.
 #![tactic(auto)]
 
-ghost use Rattle.std.specs.Prelude.{◌≤◌, ◌≡◌, length, is_err};
+ghost use Rattle.std.specs.Prelude.{◌≤◌, ◌≡◌, length};
 ghost use Rattle.io.specs.Counts.{IsPrefixLen, clamp_len};
 ghost use Rattle.text_put.specs.Puts.{Put};
 ghost use Rattle.sheet_files.specs.Paths.{path_of};
-ghost use Rattle.sheet_files.specs.Rooms.{LeavesRoom, NothingUnopened, fails};
+ghost use Rattle.sheet_files.specs.Rooms.{LeavesRoom, NothingUnopened, answer_of, fails};
 
 use std::fs::Files;
 use std::io::{Read, Result};
@@ -36,9 +36,9 @@ pub fn put_path(folder: &[u8], name: &[u8], path: &mut [u8]) -> usize
     put_text(path, from, name)
 }
 
-// What a read gave, as the C library answers: how many bytes, or a negative number where it failed.
+// What a read gave as one number: how many bytes, or -1 where it failed.
 fn answer_of(got: Result<usize>) -> isize
-    ensures { fails result ≡ is_err got }
+    ensures { result ≡ answer_of got }
 {
     match got {
         Ok(bytes) => isize::try_from(bytes).unwrap_or(isize::MAX),
@@ -46,7 +46,7 @@ fn answer_of(got: Result<usize>) -> isize
     }
 }
 
-// What the C library's answer to a read says.
+// What the number of a read says.
 fn part_of(got: isize, room: &[u8]) -> Part
     ensures failed_value { result.failed ≡ fails got }
     ensures bytes_value { result.bytes ≡ clamp_len got (length room.now) }

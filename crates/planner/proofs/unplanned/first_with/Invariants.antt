@@ -1,7 +1,6 @@
 -- `planner::unplanned::first_with` reads no further than the rules. Assumes nothing.
 use Prim.Native.Nat.{◌-◌}
 use lib.ListN.{length}
-use borrow.Author.Rules.{rules}
 use Rattle.planner.proofs.unplanned.first_with.Given as goal
 
 abbrev pub invariant-loop-i : goal.invariant-loop-i
