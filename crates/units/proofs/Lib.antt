@@ -1,7 +1,6 @@
 pub mod Tests
 pub mod Tables
 pub mod Verdicts
-pub mod Answers
 pub mod Unique
 pub mod Decimals
 pub mod Places

@@ -1,18 +1,19 @@
 -- The temperature: its range, and an energy at it. Assumes nothing.
-use Rattle.std.specs.Prelude.{Bool, not, ◌&&◌, [], Float}
+use Rattle.std.specs.Prelude.{Bool, not, ◌&&◌, Float}
 use Rattle.std.specs.Float.{binary64}
 use Rattle.std.specs.Float.Ieee.{sub, mul, div, le}
 use Rattle.units.specs.declared.BaseEnergy.{BaseEnergy}
 use Rattle.units.specs.Decimals.{plus}
 use Rattle.units.specs.Limits.{least_kelvin, most_kelvin}
 use Rattle.units.specs.Refusals.{Verdict, refuse_if}
+use Rattle.units.specs.declared.refusal.Refusal.TheVariants.{Size}
 
 -- from 200 to 500 kelvin, the ends included
 abbrev pub in_kelvin_range : Float → Bool
 in_kelvin_range kelvin = le (plus least_kelvin 1) kelvin && le kelvin (plus most_kelvin 1)
 
 abbrev pub kelvin_verdict : Float → Verdict
-kelvin_verdict kelvin = refuse_if (not (in_kelvin_range kelvin)) 1 []
+kelvin_verdict kelvin = refuse_if (not (in_kelvin_range kelvin)) Size
 
 -- ΔG − (T − 310.15)·ΔS
 abbrev pub energy_at : BaseEnergy → Float → Float

@@ -1,7 +1,6 @@
 pub mod Limits
 pub mod Decimals
 pub mod Refusals
-pub mod Answers
 pub mod Kelvin
 pub mod Finite
 pub mod Places

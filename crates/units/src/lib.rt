@@ -1,11 +1,14 @@
 // What every part passes along: a base energy, a refusal, the answers; and the temperature.
 #![tactic(auto)]
 
-ghost use Rattle.std.specs.Prelude.{◌≡◌, [], ◌∷◌};
+mod refusal;
+
+ghost use Rattle.std.specs.Prelude.{◌≡◌};
 ghost use Rattle.units.specs.Limits.{from_one_to, all_limits};
-ghost use Rattle.units.specs.Refusals.{check, refuses};
 ghost use Rattle.units.specs.Kelvin.{in_kelvin_range, kelvin_verdict, energy_at, rtval as kelvin_rtval, times_beta};
 ghost use Rattle.units.specs.Finite.{finite};
+
+pub use refusal::Refusal;
 
 // Rows of a grid, and its columns.
 pub const MOST_SIDE: usize = 32;
@@ -70,49 +73,6 @@ pub struct StrandGlues {
     pub glues: [u32; 5],
 }
 
-// A refusal of the rules' table: its number and its values in their order; an unused value is 0.
-#[derive(Clone, Copy)]
-pub struct Refusal {
-    pub number: u32,
-    pub first: usize,
-    pub second: usize,
-}
-
-// What a test of the input says.
-#[derive(Clone, Copy)]
-pub enum Check {
-    Passed,
-    Refused(Refusal),
-}
-
-// The answer of a call that gives a base energy.
-#[derive(Clone, Copy)]
-pub enum BaseEnergyAnswer {
-    Found(BaseEnergy),
-    Refused(Refusal),
-}
-
-// The answer of a call that gives an energy in kcal/mol.
-#[derive(Clone, Copy)]
-pub enum EnergyAnswer {
-    Energy(f64),
-    Refused(Refusal),
-}
-
-// The answer of a call that gives an energy in whole hundredths of a kcal/mol.
-#[derive(Clone, Copy)]
-pub enum HundredthsAnswer {
-    Hundredths(i32),
-    Refused(Refusal),
-}
-
-// The answer of a call that gives a count.
-#[derive(Clone, Copy)]
-pub enum CountAnswer {
-    Count(usize),
-    Refused(Refusal),
-}
-
 // All limits at once, so that constants and definitions are held equal.
 pub fn all_limits() -> Limits
     ensures { result ≡ all_limits }
@@ -139,38 +99,21 @@ pub fn in_kelvin_range(kelvin: f64) -> bool
 }
 
 // Refusal 1 where the temperature is outside its range.
-pub fn check_kelvin(kelvin: f64) -> Check
-    ensures { result ≡ check (kelvin_verdict kelvin) }
+pub fn check_kelvin(kelvin: f64) -> Result<(), Refusal>
+    ensures { result ≡ kelvin_verdict kelvin }
 {
     if in_kelvin_range(kelvin) {
-        return Check::Passed;
+        Ok(())
+    } else {
+        Err(Refusal::Size)
     }
-    refused(1)
-}
-
-// A refusal without values.
-pub fn refused(number: u32) -> Check
-    ensures { result ≡ check (refuses number []) }
-{
-    refused_with(number, 0)
-}
-
-// A refusal with one value.
-pub fn refused_with(number: u32, value: usize) -> Check
-    ensures { result ≡ check (refuses number (value ∷ [])) }
-{
-    Check::Refused(Refusal {
-        number: number,
-        first: value,
-        second: 0,
-    })
 }
 
 // Whether a number is from 1 to a limit.
 pub fn from_one_to(most: usize, n: usize) -> bool
     ensures { result ≡ from_one_to most n }
 {
-    1 <= n && n <= most
+    (1..=most).contains(&n)
 }
 
 // ΔG at a temperature: ΔG − (T − 310.15)·ΔS, each operation rounded once.
@@ -198,9 +141,5 @@ pub fn times_beta(energy: f64, kelvin: f64) -> f64
 pub fn is_finite(x: f64) -> bool
     ensures { result ≡ finite x }
 {
-    let infinity = 1.0 / 0.0;
-    if x < infinity {
-        return -infinity < x;
-    }
-    false
+    x.is_finite()
 }
