@@ -2,14 +2,13 @@
 #![tactic(auto)]
 
 ghost use Rattle.std.specs.Prelude.{◌≡◌};
-ghost use Rattle.units.specs.Refusals.{check};
-ghost use Rattle.dna_letters.specs.Bases.{base_of, connects_to, index_of, good_match};
+ghost use Rattle.dna_letters.specs.Bases.{connects_to, index_of, good_match};
 ghost use Rattle.dna_letters.specs.Letters.{is_letter, first_bad, letters_verdict, length_verdict};
 
-use units::{Check, MOST_LETTERS, Refusal, refused};
+use units::{MOST_LETTERS, Refusal};
 
 // In the Rust's order, which is that of its tables.
-#[derive(Clone, Copy)]
+#[derive(Clone, Copy, Debug, PartialEq, Eq)]
 pub enum DnaNucleotideBase {
     A,
     T,
@@ -18,18 +17,6 @@ pub enum DnaNucleotideBase {
 }
 
 impl DnaNucleotideBase {
-    // The base of a letter, in either case. Another byte is taken for C: the tests refuse it before it counts.
-    pub fn from(letter: u8) -> Self
-        ensures { result ≡ base_of letter }
-    {
-        match letter {
-            b'a' | b'A' => DnaNucleotideBase::A,
-            b't' | b'T' => DnaNucleotideBase::T,
-            b'g' | b'G' => DnaNucleotideBase::G,
-            _ => DnaNucleotideBase::C,
-        }
-    }
-
     // The base that binds this one.
     pub fn connects_to(self) -> Self
         ensures { result ≡ connects_to self }
@@ -55,61 +42,64 @@ impl DnaNucleotideBase {
     }
 }
 
+// The base of a letter, in either case. Another byte is taken for C: the tests refuse it before it counts.
+impl From<u8> for DnaNucleotideBase {
+    ghost use Rattle.dna_letters.specs.Bases.{base_of};
+
+    ghost from_gives = { λ letter base. base ≡ base_of letter };
+
+    #[tactic(auto, unfolding(crate::specs::Bases::base_of))]
+    fn from(letter: u8) -> Self {
+        match letter {
+            b'a' | b'A' => DnaNucleotideBase::A,
+            b't' | b'T' => DnaNucleotideBase::T,
+            b'g' | b'G' => DnaNucleotideBase::G,
+            _ => DnaNucleotideBase::C,
+        }
+    }
+}
+
 // Whether two bases written one over the other bind.
 pub fn good_match(a: DnaNucleotideBase, b: DnaNucleotideBase) -> bool
     ensures { result ≡ good_match a b }
 {
-    a.connects_to().index() == b.index()
+    a.connects_to() == b
 }
 
 // Whether a byte is one of acgtACGT.
+#[tactic(auto, unfolding(crate::specs::Letters::is_letter))]
 pub fn is_letter(letter: u8) -> bool
     ensures { result ≡ is_letter letter }
 {
-    match letter {
-        b'a' | b'A' => true,
-        b'c' | b'C' => true,
-        b'g' | b'G' => true,
-        b't' | b'T' => true,
-        _ => false,
-    }
+    matches!(
+        letter,
+        b'a' | b'A' | b'c' | b'C' | b'g' | b'G' | b't' | b'T'
+    )
 }
 
-// The place of the first byte that is no letter, or the length where there is none.
-fn first_bad(dna: &[u8]) -> usize
+// The place of the first byte that is no letter.
+fn first_bad(dna: &[u8]) -> Option<usize>
     ensures { result ≡ first_bad dna.now }
 {
-    let mut i = 0;
-    while i < dna.len() {
-        if !is_letter(dna[i]) {
-            return i;
-        }
-        i += 1;
-    }
-    i
+    dna.iter().position(|&letter| !is_letter(letter))
 }
 
 // Refusal 11 with the sequence and the place where a byte is no letter.
-pub fn check_letters(dna: &[u8], sequence: usize) -> Check
-    ensures { result ≡ check (letters_verdict sequence dna.now) }
+pub fn check_letters(dna: &[u8], sequence: usize) -> Result<(), Refusal>
+    ensures { result ≡ letters_verdict sequence dna.now }
 {
-    let place = first_bad(dna);
-    if place < dna.len() {
-        return Check::Refused(Refusal {
-            number: 11,
-            first: sequence,
-            second: place,
-        });
+    match first_bad(dna) {
+        Some(place) => Err(Refusal::Letter(sequence, place)),
+        None => Ok(()),
     }
-    Check::Passed
 }
 
 // Refusal 13 where a sequence is too long.
-pub fn check_length(dna: &[u8]) -> Check
-    ensures { result ≡ check (length_verdict dna.now) }
+pub fn check_length(dna: &[u8]) -> Result<(), Refusal>
+    ensures { result ≡ length_verdict dna.now }
 {
     if MOST_LETTERS < dna.len() {
-        return refused(13);
+        return Err(Refusal::SequenceLength);
     }
-    Check::Passed
+    Ok(())
 }
