@@ -4,11 +4,12 @@ use Rattle.std.specs.Float.{nan, inf, fin}
 use Rattle.units.specs.Finite.{finite}
 use Rattle.units.specs.Places.{place_verdict}
 use Rattle.units.specs.Refusals.{Verdict, ◌▷◌}
+use Rattle.units.specs.declared.refusal.Refusal.TheVariants.{Glue, Energy}
 
 -- 2, with the first place through strand glues, then scaffold: a glue number is not below the count
 abbrev pub glues_verdict : (glues : ℕ) → (strand_glues scaffold : List ℕ) → Verdict
 glues_verdict glues strand_glues scaffold =
-    place_verdict 2 0 (λ g. ltb g glues) strand_glues ▷ place_verdict 2 (length strand_glues) (λ g. ltb g glues) scaffold
+    place_verdict Glue 0 (λ g. ltb g glues) strand_glues ▷ place_verdict Glue (length strand_glues) (λ g. ltb g glues) scaffold
 
 -- a log concentration that is neither a NaN nor plus infinity
 unfoldable pub is_log : Float → Bool
@@ -16,14 +17,9 @@ is_log nan = false
 is_log (inf negative) = negative
 is_log (fin negative m e) = true
 
--- what may stand in a table of floats: of log concentrations, or of energies, which are finite
-abbrev pub taken : (log : Bool) → Float → Bool
-taken true = is_log
-taken false = finite
-
 -- 3, with the first place through ΔG, ΔS, log concentrations: an energy is not finite, or a logarithm is none; strand 0's is never read
 abbrev pub energies_verdict : (delta_g entropy logs : List Float) → Verdict
 energies_verdict delta_g entropy logs =
-    place_verdict 3 0 finite delta_g
-    ▷ place_verdict 3 (length delta_g) finite entropy
-    ▷ place_verdict 3 (length delta_g + length entropy + 1) is_log (drop 1 logs)
+    place_verdict Energy 0 finite delta_g
+    ▷ place_verdict Energy (length delta_g) finite entropy
+    ▷ place_verdict Energy (length delta_g + length entropy + 1) is_log (drop 1 logs)
