@@ -6,11 +6,10 @@ use mathlib.Core.Logic.{⊎_elim}
 use native.Mathlib.Nat.{le_antisymm, eq-or-lt_of_le, lt_of_not-le, le_of_suc-le-suc, not-suc-le-zero, zero-add, add-zero, add-suc, suc-add}
 use native.Mathlib.Numerals.{add-one}
 use native.Mathlib.Omega.{arith}
-use Rattle.units.specs.declared.Refusal.{Refusal}
-use Rattle.units.specs.declared.Check.{Check}
-use Rattle.units.specs.declared.Check.TheVariants.{Passed, Refused}
-use Rattle.units.specs.Refusals.{Verdict, passes, check}
-use Rattle.units.proofs.Verdicts.{Tabled, tabled_then, refused_first, passed, first_passes, rest_passes}
+use Rattle.units.specs.declared.refusal.Refusal.{Refusal}
+use Rattle.std.specs.Prelude.{Ok, Err}
+use Rattle.units.specs.Refusals.{Verdict, passes}
+use Rattle.units.proofs.Verdicts.{first_passes, rest_passes}
 use Rattle.text_entries.specs.InOrder.{first_from, each_from}
 
 -- one thing less is left after thing j
@@ -71,13 +70,13 @@ first_same test other j (suc k) same = rw (same j (omega arith) (omega arith), f
 
 module _ (verdict : ℕ → Verdict) (j count : ℕ) where
   -- thing j passed: the rest decides; it was refused: it decides; none is left
-  pub each_more : {x : Check} → j < count → x ≡ check (verdict j) → x ≡ Passed → each_from verdict j (count - j) ≡ each_from verdict (j + 1) (count - (j + 1))
+  pub each_more : {u : Unit} → j < count → Ok u ≡ verdict j → each_from verdict j (count - j) ≡ each_from verdict (j + 1) (count - (j + 1))
   unfolding each_from
-  each_more h e f = rw (one_less j count h, passed (verdict j) e f, add-one j)
+  each_more h e = rw (one_less j count h, ← e, add-one j)
 
-  pub each_refused : {x : Check} {r : Refusal} → j < count → x ≡ check (verdict j) → x ≡ Refused r → Refused r ≡ check (each_from verdict j (count - j))
+  pub each_refused : {r : Refusal} → j < count → Err r ≡ verdict j → Err r ≡ each_from verdict j (count - j)
   unfolding each_from
-  each_refused h e f = rw (one_less j count h) (refused_first (verdict j) _ e f)
+  each_refused h e = rw (one_less j count h, ← e)
 
   pub each_done : count ≤ j → each_from verdict j (count - j) ≡ passes
   unfolding each_from
@@ -94,9 +93,3 @@ module _ (verdict : ℕ → Verdict) where
   -- where all pass, each does
   pub each_passes : (count i : ℕ) → each_from verdict 0 count ≡ passes → i < count → verdict i ≡ passes
   each_passes count i e h = rw (add-zero i) at (from_on 0 count i e h)
-
-  -- where each refusal has the values of its row, so has that of all
-  pub each_tabled : ((i : ℕ) → Tabled (verdict i)) → (j k : ℕ) → Tabled (each_from verdict j k)
-  unfolding each_from
-  each_tabled tabled j zero = tt
-  each_tabled tabled j (suc k) = tabled_then (verdict j) (each_from verdict (suc j) k) (tabled j) (each_tabled tabled (suc j) k)

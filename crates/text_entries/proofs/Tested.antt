@@ -2,10 +2,10 @@
 use Prim.Native.Nat.{ℕ, ◌+◌, ◌≤◌}
 use mathlib.Core.Path.{◌≡◌, sym, ◌∙◌}
 use mathlib.Core.Bool.{Bool, true, false, not}
-use mathlib.Core.List.{List}
 use lib.Dec.{leb, eqb}
 use borrow.Author.Tests.{leb-true, eqb-true, not-true, not-false}
 use Rattle.units.specs.Limits.{most_name_bytes, from_one_to}
+use Rattle.units.specs.declared.refusal.Refusal.{Refusal}
 use Rattle.units.specs.Refusals.{passes, refuse_if}
 use Rattle.units.proofs.Tests.{and_left, and_right, both}
 use Rattle.units.proofs.Verdicts.{no_fault}
@@ -19,8 +19,8 @@ pub holds : {t b : Bool} → t ≡ b → not t ≡ false → b ≡ true
 holds {t} e h = sym e ∙ not-false t h
 
 -- a fault that a test looked for and did not find
-pub no_fault_found : (b : Bool) (number : ℕ) (values : List ℕ) → refuse_if (not b) number values ≡ passes → b ≡ true
-no_fault_found b number values e = not-false b (no_fault (not b) number values e)
+pub no_fault_found : (b : Bool) (r : Refusal) → refuse_if (not b) r ≡ passes → b ≡ true
+no_fault_found b r e = not-false b (no_fault (not b) r e)
 
 -- a number from 1 to a limit
 pub at_least_one : (most n : ℕ) → from_one_to most n ≡ true → 1 ≤ n

@@ -1,5 +1,6 @@
 -- Entries of a text, by offsets into it. Assumes nothing.
-use Rattle.std.specs.Prelude.{ℕ, ◌+◌, ◌-◌, Bool, true, false, ◌&&◌, List, [], ◌∷◌, leb, eqb, get_or, take, drop}
+use Rattle.std.specs.Prelude.{ℕ, ◌+◌, ◌-◌, Bool, true, ◌&&◌, List, [], ◌∷◌, leb, eqb, get_or, take, drop}
+use Rattle.std.specs.Str.{bytes_eq}
 use Rattle.units.specs.Limits.{most_name_bytes}
 
 -- what stands in a text from one place up to another
@@ -32,8 +33,5 @@ abbrev pub entries_sized : (text offsets present entries : ℕ) → Bool
 entries_sized text offsets present entries = leb text most_name_bytes && (eqb offsets (entries + 1) && eqb present entries)
 
 -- the same bytes
-unfoldable pub same_bytes : List ℕ → List ℕ → Bool
-same_bytes [] [] = true
-same_bytes [] (y ∷ ys) = false
-same_bytes (x ∷ xs) [] = false
-same_bytes (x ∷ xs) (y ∷ ys) = eqb x y && same_bytes xs ys
+abbrev pub same_bytes : List ℕ → List ℕ → Bool
+same_bytes a b = bytes_eq a b
