@@ -7,7 +7,8 @@ ghost use Rattle.dna_steps.specs.Steps.{step_place, step_of, dg_ds, start, add_e
 use dna_letters::DnaNucleotideBase;
 use units::BaseEnergy;
 
-// ΔG in kcal/mol, ΔS in kcal/(mol·K), and −ΔG in hundredths, by first and second letter in the order A, T, G, C.
+// ΔG in kcal/mol, ΔS in kcal/(mol·K), and −ΔG in hundredths, by first and second letter in the order A, T, G, C. Each is a column of its own, one
+// number a line, as it is compared with what is printed.
 const STEP_DG: [f64; 16] = [
     -1.0, // AA
     -0.88, // AT
@@ -119,6 +120,5 @@ pub fn dg_ds(a: DnaNucleotideBase, b: DnaNucleotideBase) -> BaseEnergy
 pub fn step_hundredths(a: DnaNucleotideBase, b: DnaNucleotideBase) -> u32
     ensures { (result ≡ (step_of a b).dg) × (result ≤ 224) }
 {
-    let place = step_place(a, b);
-    STEP_HUNDREDTHS[place]
+    STEP_HUNDREDTHS[step_place(a, b)]
 }

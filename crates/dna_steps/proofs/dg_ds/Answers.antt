@@ -1,27 +1,14 @@
 -- `dna_steps::dg_ds` meets its contract: each table of the code is the printed numbers, each rounded once, which antt computes. Assumes nothing.
 use mathlib.Core.Path.{ap₂}
-use native.Mathlib.Omega.{arith}
 use lib.Ieee.{Float, nan, of_bits}
 use Rattle.units.specs.declared.BaseEnergy.{BaseEnergy}
 use Rattle.units.specs.Decimals.{decimal, minus}
 use Rattle.dna_steps.specs.Steps.{dg_ds, step_of}
-use Rattle.dna_steps.proofs.StepTables.{steps, step_place_lt, made_of_steps}
+use Rattle.dna_steps.proofs.StepTables.{steps, made_of_steps}
 use Rattle.dna_steps.proofs.dg_ds.Goals as goal
 
 energy : Float → Float → BaseEnergy
 energy dg ds = record { dg = dg; ds = ds }
-
-pub offset_bounds-place : goal.offset_bounds-place
-offset_bounds-place c = omega (arith, step_place_lt c.args.a c.args.b)
-
-pub bounds-place : goal.bounds-place
-bounds-place c = omega (arith, step_place_lt c.args.a c.args.b)
-
-pub offset_bounds-place-2 : goal.offset_bounds-place-2
-offset_bounds-place-2 c = omega (arith, step_place_lt c.args.a c.args.b)
-
-pub bounds-place-2 : goal.bounds-place-2
-bounds-place-2 c = omega (arith, step_place_lt c.args.a c.args.b)
 
 pub returns : goal.returns
 unfolding of_bits decimal step_of steps dg_ds energy
