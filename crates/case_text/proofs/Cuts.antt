@@ -9,8 +9,10 @@ use native.Mathlib.Omega.{arith}
 use borrow.Author.Tests.{eq-eqb, eqb-true}
 use lib.Dec.{eqb}
 use lib.ListN.{length, take, drop, drop_of_length-le, length-drop}
-use lib.Seq.{drop-drop, take-length}
-use Rattle.text_search.specs.Search.{index_after, index_of, slice}
+use lib.Seq.{drop-drop}
+use Rattle.std.specs.Option.{unwrap_or}
+use Rattle.text_search.specs.Search.{index_after, index_of, place_in}
+use Rattle.text_search.proofs.Searching.{place_or_end}
 use Rattle.case_text.specs.Places.{place_of, Onward, longer, parts}
 use Rattle.case_text.specs.Fields.{rest}
 
@@ -20,9 +22,9 @@ pub place_past : (b : ℕ) (text : List ℕ) (i : ℕ) → length text ≤ i →
 unfolding place_of index_of
 place_past b text i h = rw (drop_of_length-le text h) (omega arith)
 
-pub place_found : (b : ℕ) (text : List ℕ) (from r : ℕ) → from < length text → r ≡ from + index_of b (slice from (length text) text) → r ≡ place_of b text from
-unfolding place_of slice
-place_found b text from r h e = let n = rw take-length at e in omega arith
+pub place_found : (b : ℕ) (text : List ℕ) (from : ℕ) → from < length text → unwrap_or (place_in b from (length text) text) (length text) ≡ place_of b text from
+unfolding place_of
+place_found b text from h = let found = place_or_end b from text (omega arith) in omega arith
 
 -- ---- how far a search goes
 

@@ -10,7 +10,7 @@ pub(crate) fn place_of(text: &[u8], from: usize, byte: u8) -> usize
     if text.len() <= from {
         return text.len();
     }
-    text_search::find(text, from, text.len(), byte)
+    text_search::find(text, from, text.len(), byte).unwrap_or(text.len())
 }
 
 // The place of the next line feed at or after `from`, or the text's length where there is none.

@@ -7,8 +7,10 @@ use native.Mathlib.Omega.{arith}
 use borrow.Author.Tests.{le-leb, lt-leb, leb-true, leb-false}
 use lib.Dec.{eqb, leb}
 use lib.ListN.{length, take, drop, length-drop}
-use lib.Seq.{drop-drop, take-length}
-use Rattle.text_search.specs.Search.{slice, index_after, index_of}
+use lib.Seq.{drop-drop}
+use Rattle.std.specs.Option.{unwrap_or}
+use Rattle.text_search.specs.Search.{place_in, index_after, index_of}
+use Rattle.text_search.proofs.Searching.{place_or_end}
 use Rattle.sheet_number_lists.specs.NumberLists.{joined, words}
 use Rattle.sheet_number_lists.specs.Counts.{word_length}
 
@@ -24,9 +26,8 @@ space_at (b ∷ t) = go (eqb b 32) (space_at t)
     go false h = ap suc h
 
 -- the space, or the end, where a search from a place on finds it
-pub space_found : (t : List ℕ) (at : ℕ) → at + index_of 32 (slice at (length t) t) ≡ at + word_length (drop at t)
-unfolding slice
-space_found t at = rw (take-length t, space_at (drop at t))
+pub space_found : (t : List ℕ) (at : ℕ) → at ≤ length t → unwrap_or (place_in 32 at (length t) t) (length t) ≡ at + word_length (drop at t)
+space_found t at h = place_or_end 32 at t h ∙ rw (space_at (drop at t))
 
 word_le : (t : List ℕ) → word_length t ≤ length t
 unfolding word_length

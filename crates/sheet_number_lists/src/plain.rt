@@ -16,7 +16,7 @@ pub(crate) fn word_end(content: &[u8], at: usize) -> usize
     requires { at ≤ length content.now }
     ensures { result ≡ at + word_length (drop at content.now) }
 {
-    text_search::find(content, at, content.len(), b' ')
+    text_search::find(content, at, content.len(), b' ').unwrap_or(content.len())
 }
 
 // The number that the bytes from one place to another are.

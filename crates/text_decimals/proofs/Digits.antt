@@ -1,7 +1,8 @@
 -- The search for a decimal's point, and the turns of the loop over its digits. Assumes nothing.
-use Rattle.std.proofs.Common.{◌≡◌, ℕ, suc, ◌+◌, ◌*◌, ◌^◌, ◌<◌, ◌≤◌, Bool, true, false, cond, ◌&&◌, eqb, ltb, List, [], ◌∷◌, length, get_or, drop, sym, refl, ap, ◌∙◌, zero-add, add-one, arith, lit<, drop_of_length-le, drop-cons, le-ltb, lt-ltb}
-use lib.Seq.{take-length}
-use Rattle.text_search.specs.Search.{slice, index_after, index_of}
+use Rattle.std.proofs.Common.{◌≡◌, ℕ, suc, ◌+◌, ◌*◌, ◌^◌, ◌<◌, ◌≤◌, Bool, true, false, cond, ◌&&◌, eqb, ltb, List, [], ◌∷◌, length, get_or, drop, sym, refl, ap, ◌∙◌, zero-le, zero-add, add-one, arith, lit<, drop_of_length-le, drop-cons, le-ltb, lt-ltb}
+use Rattle.std.specs.Option.{unwrap_or}
+use Rattle.text_search.specs.Search.{place_in, index_after, index_of}
+use Rattle.text_search.proofs.Searching.{place_or_end}
 use Rattle.text_digits.specs.Digits.{digit, all_digits, worth}
 use Rattle.text_digits.specs.declared.kinds.Number.{Number}
 use Rattle.units.proofs.Tests.{and_false}
@@ -20,9 +21,8 @@ point_at (b ∷ t) = go (eqb b 46) (point_at t)
     go false h = ap suc h
 
 -- the point where a search over the whole text finds it
-pub point_found : (t : List ℕ) → 0 + index_of 46 (slice 0 (length t) t) ≡ whole_length t
-unfolding slice
-point_found t = zero-add _ ∙ rw (take-length t) (point_at t)
+pub point_found : (t : List ℕ) → unwrap_or (place_in 46 0 (length t) t) (length t) ≡ whole_length t
+point_found t = place_or_end 46 0 t zero-le ∙ zero-add _ ∙ point_at t
 
 -- ---- over digits
 

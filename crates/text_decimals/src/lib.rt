@@ -39,7 +39,7 @@ fn ratio(negative: bool, n: u64, k: usize) -> f64
 fn whole_length(text: &[u8]) -> usize
     ensures { result ≡ whole_length text.now }
 {
-    text_search::find(text, 0, text.len(), b'.')
+    text_search::find(text, 0, text.len(), b'.').unwrap_or(text.len())
 }
 
 // What digits are worth after others that are worth n, where that is less than 10^15.

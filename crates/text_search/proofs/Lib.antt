@@ -1,1 +1,1 @@
-mod Searching
+pub mod Searching

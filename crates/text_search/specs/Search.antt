@@ -1,5 +1,5 @@
 -- Where a byte stands first in a text. Assumes nothing.
-use Rattle.std.specs.Prelude.{ℕ, suc, Bool, true, false, List, [], ◌∷◌, eqb, take, drop}
+use Rattle.std.specs.Prelude.{ℕ, suc, ◌+◌, Bool, true, false, List, [], ◌∷◌, Option, option_map, position, ◌==◌, eqb, slice_range}
 
 -- the place of the first b behind a byte that is b or not
 unfoldable pub index_after : Bool → ℕ → ℕ
@@ -12,6 +12,6 @@ unfolding index_after
 index_of b [] = 0
 index_of b (x ∷ xs) = index_after (eqb x b) (index_of b xs)
 
--- the part of a text from one place to another
-unfoldable pub slice : ℕ → ℕ → List ℕ → List ℕ
-slice from to xs = drop from (take to xs)
+-- the place of the first b in the part of a text from one place to another, if it stands there
+abbrev pub place_in : ℕ → (from to : ℕ) → List ℕ → Option ℕ
+place_in b from to xs = option_map (λ i. from + i) (position (λ x. x == b) (slice_range xs from to))

@@ -1,7 +1,6 @@
 -- `text_decimals::whole_length` meets its contract. Assumes nothing.
-use Rattle.std.proofs.Common.{◌∙◌}
 use Rattle.text_decimals.proofs.Digits.{point_found}
 use Rattle.text_decimals.proofs.whole_length.Goals as goal
 
 pub returns : goal.returns
-returns c = c.find.ensures ∙ point_found c.args.text.now
+returns c = let e = point_found c.args.text.now in cc

@@ -15,8 +15,9 @@ returns-then-text-from c = let a = c.args in
 
 pub returns : goal.returns
 returns c = let a = c.args in
-    let found = place_found a.byte a.text.now a.from _ c.if-text-from.false c.find.ensures in
+    let found = place_found a.byte a.text.now a.from c.if-text-from.false in
+    let same : c.unwrap_or.result ≡ place_of a.byte a.text.now a.from = cc in
     record {
-      value = found;
-      onward = onward_at a.byte a.text.now a.from _ found;
+      value = same;
+      onward = onward_at a.byte a.text.now a.from _ same;
     }

@@ -1,7 +1,6 @@
--- `plain::word_end` meets its contract. Assumes nothing.
-use mathlib.Core.Path.{◌∙◌}
+-- `sheet_number_lists::plain::word_end` meets its contract. Assumes nothing.
 use Rattle.sheet_number_lists.proofs.Cuts.{space_found}
 use Rattle.sheet_number_lists.proofs.plain.word_end.Goals as goal
 
 pub returns : goal.returns
-returns c = let a = c.args in c.find.ensures ∙ space_found a.content.now a.at
+returns c = let a = c.args in let e = space_found a.content.now a.at c.requires in cc
