@@ -4,7 +4,7 @@ ghost use Rattle.std.specs.Prelude.{◌≤◌, length};
 use crate::calls::answer;
 use case_answer_lines::put_text;
 use case_field_reads::at_most;
-use case_text::{first_bytes, is_case, line_end};
+use case_text::{front, is_case, line_end};
 use std::alloc::Global;
 use std::io::Read;
 
@@ -21,7 +21,7 @@ pub(crate) struct Held {
 // Writes a line that stands in `out`.
 fn write_line(out: &mut [u8], at: usize) {
     let end = put_text(out, at, b"\n");
-    io::write_all(STDOUT, first_bytes(out, end));
+    io::write_all(STDOUT, front(out, end));
 }
 
 // Writes the answer to one line, if it is a case. No answer is longer than the room for it.
@@ -87,7 +87,7 @@ fn read_once(alloc: Global, file: &mut impl Read, name: &[u8], room: &mut [u8]) 
 // Answers the lines that end among the first bytes of the room. Where the room is full of one line, that is told, and the rest of the line is
 // read as a comment.
 fn answer_held(end: usize, room: &mut [u8], out: &mut [u8]) -> usize {
-    let next = answer_lines(first_bytes(room, end), out);
+    let next = answer_lines(front(room, end), out);
     let left = to_front(room, next, end);
     if left < room.len() {
         return left;
@@ -111,7 +111,7 @@ pub(crate) fn answer_some(
     let at = at_most(held.count, room.len());
     let got = read_once(alloc, file, name, &mut room[at..]);
     if got == 0 {
-        answer_line(first_bytes(room, at), out);
+        answer_line(front(room, at), out);
         return Held {
             count: 0,
             more: false,

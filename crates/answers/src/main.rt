@@ -4,7 +4,7 @@
 mod calls;
 mod lines;
 
-use case_text::first_bytes;
+use case_text::front;
 use lines::{Held, answer_some};
 use std::alloc::Global;
 use std::io::Read;
@@ -38,7 +38,7 @@ fn answer_argument(
 ) {
     let mut path = io::buffer();
     let n = text_host::arg(rt, place, &mut path);
-    let name = first_bytes(&path, n);
+    let name = front(&path, n);
     match text_host::open_read(rt, name) {
         Ok(mut file) => answer_file(rt.alloc(), &mut file, name, room, out),
         Err(error) => text_host::fail(rt.alloc(), name, error),

@@ -9,7 +9,7 @@ use bay_system::Sizes;
 use case_answer_lines::unreadable;
 use case_field_reads::small_numbers_field;
 use case_replies::put_energy;
-use case_text::first_small_numbers;
+use case_text::front;
 use sdc2d_thermo::state_g;
 
 // The answer to a case on a system: the energy of its layout.
@@ -29,7 +29,7 @@ pub fn answer_energy(
 {
     let mut room = [0u32; 1089];
     let read = small_numbers_field(line, b"layout", &mut room);
-    let layout = first_small_numbers(&room, read.count);
+    let layout = front(&room, read.count);
     if !read.readable {
         return unreadable(out);
     }

@@ -7,7 +7,7 @@ use case_answer_lines::{refused_with_tables, unreadable};
 use case_field_reads::{at_most, floats_field};
 use case_lent::all_floats;
 use case_parts::{bytes_from, numbers_from};
-use case_text::first_floats;
+use case_text::front;
 use sdc2d::energy_keys;
 use units::Check;
 
@@ -116,7 +116,7 @@ fn keys_read(
         lists,
         &numbers,
         asked,
-        first_floats(&energies, floats.count),
+        front(&energies, floats.count),
         delta_g,
         entropy,
         out,

@@ -5,7 +5,7 @@ ghost use Rattle.std.specs.Prelude.{◌≤◌, length};
 
 use case_field_reads::{ListRead, at_most, floats_field, is_number, number_in, numbers_field};
 use case_fields::number_or;
-use case_text::{Number, first_floats, first_numbers};
+use case_text::{Number, front};
 
 // Whether the cells and the lengths could be read, and how long the lent matrices are.
 #[derive(Clone, Copy)]
@@ -114,8 +114,8 @@ pub fn matrices_into(
     clear(delta_g, matrices.delta_g);
     clear(entropy, matrices.entropy);
     put_cells(
-        first_numbers(&cells, cells_read.count),
-        first_floats(&energies, energies_read.count),
+        front(&cells, cells_read.count),
+        front(&energies, energies_read.count),
         glues,
         matrices,
         delta_g,

@@ -14,7 +14,7 @@ use case_answer_lists::put_coded;
 use case_fields::text_field;
 use case_lists::Count;
 use case_replies::Reply;
-use case_text::{call_name, first_bytes, same};
+use case_text::{call_name, front, same};
 use sdc_common::{is_from, self_and_inverse};
 
 fn put_base(out: &mut [u8], base: &[u8], is_from: bool) -> usize {
@@ -30,7 +30,7 @@ fn answer_base(line: &[u8], out: &mut [u8]) -> usize {
     let Count::Of(n) = text_field(line, b"name", &mut name) else {
         return unreadable(out);
     };
-    let given = first_bytes(&name, n);
+    let given = front(&name, n);
     put_base(out, self_and_inverse(given), is_from(given))
 }
 

@@ -8,7 +8,7 @@ use case_parts::{
     bays_of, bytes_between, bytes_from, length_of, numbers_between, read_grid, text_between,
     three_read,
 };
-use case_text::first_numbers;
+use case_text::front;
 use sdc2d::register;
 use units::{BASE_NUMBERS, CountAnswer, MOST_BASES};
 
@@ -51,7 +51,7 @@ fn read_numbers(line: &[u8]) -> Asked {
 // The numbers of a list of bases; what stands behind them is 0.
 fn put_bases(out: &mut [u8], at: usize, bases: &[usize], count: usize) -> usize {
     let used = at_most(count, MOST_BASES) * 2;
-    let next = put_numbers(out, at, b" bases=", first_numbers(bases, used));
+    let next = put_numbers(out, at, b" bases=", front(bases, used));
     put_rest(out, next, all_numbers(bases, used, 0))
 }
 
@@ -154,7 +154,7 @@ pub(crate) fn answer_register(line: &[u8], out: &mut [u8]) -> usize {
         three_read(text, present, offsets),
         read_numbers(line),
         bytes_from(&bytes, 0, text),
-        first_numbers(&numbers, offsets),
+        front(&numbers, offsets),
         bytes_from(&bytes, 16400, present),
         out,
     )

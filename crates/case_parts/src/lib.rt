@@ -13,7 +13,7 @@ ghost use Rattle.case_parts.specs.Parts.{count_of, was_read, length_for, count_b
 use case_field_reads::{is_number, number_in};
 use case_fields::{bytes_field, number_or, numbers_field, text_field};
 use case_lists::Count;
-use case_text::{first_bytes, first_numbers};
+use case_text::front;
 pub use grid::{GridRead, bays_of, read_grid};
 use text_fronts::least;
 
@@ -79,7 +79,7 @@ pub fn bytes_from<'a>(table: &'a [u8], from: usize, count: usize) -> &'a [u8]
     ensures { result.now ≡ take count (drop from table.now) }
 {
     let at = least(from, table.len());
-    first_bytes(&table[at..], count)
+    front(&table[at..], count)
 }
 
 // So many numbers of a table from a place on, as far as it goes.
@@ -87,7 +87,7 @@ pub fn numbers_from<'a>(table: &'a [usize], from: usize, count: usize) -> &'a [u
     ensures { result.now ≡ take count (drop from table.now) }
 {
     let at = least(from, table.len());
-    first_numbers(&table[at..], count)
+    front(&table[at..], count)
 }
 
 // How long a case says that a lent table is, or the right length where it does not say.

@@ -9,7 +9,7 @@ use case_answer_lines::unreadable;
 use case_field_reads::at_most;
 use case_parts::{bays_of, length_of};
 use case_systems::{ConstraintsRead, read_constraints};
-use case_text::{first_numbers, first_small_numbers};
+use case_text::front;
 use lines::put_run;
 use sdc2d_thermo::mfe_configuration;
 use units::EnergyAnswer;
@@ -229,8 +229,8 @@ pub fn answer_run(
         seeds,
         fits(lists, length),
         lists,
-        first_numbers(&offsets, lists.offsets),
-        first_small_numbers(&tiles, lists.tiles),
+        front(&offsets, lists.offsets),
+        front(&tiles, lists.tiles),
         &mut layout[0..lent],
         &mut energies,
         &mut leaving,

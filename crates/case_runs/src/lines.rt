@@ -2,7 +2,7 @@
 use case_answer_lines::{put_float, put_text, put_value, refused};
 use case_answer_lists::{put_next_float, put_next_number, put_small_numbers};
 use case_lent::{all_bytes, all_floats, all_small_numbers, put_rest};
-use case_text::{first_bytes, first_floats};
+use case_text::front;
 use units::{EnergyAnswer, Refusal};
 
 fn put_energies(out: &mut [u8], at: usize, energies: &[f64]) -> usize {
@@ -34,8 +34,8 @@ fn put_ledger(out: &mut [u8], at: usize, need: usize, energies: &[f64], leaving:
     if 256 < need {
         return at;
     }
-    let next = put_energies(out, at, first_floats(energies, need));
-    put_leaving(out, next, first_bytes(leaving, need))
+    let next = put_energies(out, at, front(energies, need));
+    put_leaving(out, next, front(leaving, need))
 }
 
 // Whether the places of both tables past the need hold what they held.
@@ -61,7 +61,7 @@ fn put_least(
 
 // Whether the needed places of both tables are 0.
 fn front_cleared(need: usize, energies: &[f64], leaving: &[u8]) -> bool {
-    all_floats(first_floats(energies, need), 0, 0.0) && all_bytes(first_bytes(leaving, need), 0, 0)
+    all_floats(front(energies, need), 0, 0.0) && all_bytes(front(leaving, need), 0, 0)
 }
 
 // Whether the lent slices are as they were.

@@ -10,7 +10,7 @@ use case_answer_lines::{put_floats, put_signed, put_text, refused, unreadable};
 use case_fields::{float_field, text_field};
 use case_lists::Count;
 use case_replies::{Reply, put_energy};
-use case_text::{FloatValue, call_name, first_bytes, same};
+use case_text::{FloatValue, call_name, front, same};
 use units::{BaseEnergyAnswer, HundredthsAnswer};
 use utils::{sequence_pair_str_dg_ds, string_dna_delta_g, string_dna_dg_ds, string_dna_hundredths};
 
@@ -73,7 +73,7 @@ fn answer_one(line: &[u8], call: &[u8], out: &mut [u8]) -> usize
     let Count::Of(n) = text_field(line, b"dna", &mut dna) else {
         return unreadable(out);
     };
-    answer_sequence(line, call, first_bytes(&dna, n), out)
+    answer_sequence(line, call, front(&dna, n), out)
 }
 
 // Reads the two sequences of a pair.
@@ -88,7 +88,7 @@ fn answer_pair(line: &[u8], out: &mut [u8]) -> usize
     let Count::Of(n) = text_field(line, b"b", &mut b) else {
         return unreadable(out);
     };
-    let answer = sequence_pair_str_dg_ds(first_bytes(&a, m), first_bytes(&b, n));
+    let answer = sequence_pair_str_dg_ds(front(&a, m), front(&b, n));
     put_base_energy(out, answer)
 }
 

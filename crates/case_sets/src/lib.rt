@@ -14,7 +14,7 @@ use case_field_reads::at_most;
 use case_lent::all_long_numbers;
 use case_parts::{bays_of, length_of};
 use case_systems::{ConstraintsRead, read_constraints};
-use case_text::{first_numbers, first_small_numbers};
+use case_text::front;
 use sdc2d_thermo::allowed_tiles;
 use units::Check;
 
@@ -103,8 +103,8 @@ pub fn answer_sets(
         seeds,
         fits(lists, length),
         lists,
-        first_numbers(&offsets, lists.offsets),
-        first_small_numbers(&tiles, lists.tiles),
+        front(&offsets, lists.offsets),
+        front(&tiles, lists.tiles),
         &mut sets[0..lent],
         out,
     )

@@ -2,14 +2,14 @@
 use case_answer_lines::{put_value, refused_with_tables};
 use case_answer_lists::{put_coded, put_numbers, put_small_numbers};
 use case_lent::{all_bytes, all_numbers, all_small_numbers, put_rest};
-use case_text::{first_bytes, first_small_numbers};
+use case_text::front;
 use units::CountAnswer;
 
 // So many numbers, and the two tables that were written.
 fn put_lists(out: &mut [u8], count: usize, offsets: &[usize], tiles: &[u32]) -> usize {
     let word = put_value(out, 0, b"lists ", count);
     let ends = put_numbers(out, word, b" offsets=", offsets);
-    let end = put_small_numbers(out, ends, b" tiles=", first_small_numbers(tiles, count));
+    let end = put_small_numbers(out, ends, b" tiles=", front(tiles, count));
     put_rest(out, end, all_small_numbers(tiles, count, 7))
 }
 
@@ -30,7 +30,7 @@ pub(crate) fn put_reading(
 // So many bytes, and the text that was written.
 fn put_sheet(out: &mut [u8], count: usize, text: &[u8]) -> usize {
     let word = put_value(out, 0, b"written ", count);
-    let end = put_coded(out, word, b" text=", first_bytes(text, count));
+    let end = put_coded(out, word, b" text=", front(text, count));
     put_rest(out, end, all_bytes(text, count, 7))
 }
 

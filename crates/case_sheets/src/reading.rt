@@ -5,7 +5,7 @@ use case_field_reads::at_most;
 use case_fields::text_field;
 use case_lists::Count;
 use case_parts::{bays_of, length_of, read_grid};
-use case_text::first_bytes;
+use case_text::front;
 use sheet::read_sheet;
 
 // The numbers of a case, and whether all could be read and there is room for the tables.
@@ -80,7 +80,7 @@ fn text_read(line: &[u8], text: &[u8; 196608], count: Count, out: &mut [u8]) -> 
     let Count::Of(n) = count else {
         return unreadable(out);
     };
-    tables_made(line, first_bytes(text, n), out)
+    tables_made(line, front(text, n), out)
 }
 
 // The answer to a case: the lists of its sheet.

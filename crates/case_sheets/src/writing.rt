@@ -3,7 +3,7 @@ use crate::lines::put_writing;
 use case_answer_lines::unreadable;
 use case_field_reads::{ListRead, at_most, numbers_field, small_numbers_field};
 use case_parts::{length_of, read_grid};
-use case_text::{first_numbers, first_small_numbers};
+use case_text::front;
 use sheet::write_sheet;
 
 // The numbers of a case, and whether all could be read and there is room for the text.
@@ -73,8 +73,8 @@ fn lists_read(
     if ends.readable && listed.readable {
         return text_made(
             line,
-            first_numbers(offsets, ends.count),
-            first_small_numbers(tiles, listed.count),
+            front(offsets, ends.count),
+            front(tiles, listed.count),
             out,
         );
     }

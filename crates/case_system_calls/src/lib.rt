@@ -15,7 +15,7 @@ use case_replies::Reply;
 use case_runs::answer_run;
 use case_sets::answer_sets;
 use case_systems::read_system;
-use case_text::{call_name, first_floats, first_small_numbers, same};
+use case_text::{call_name, front, same};
 
 // Whether a call is on a system.
 fn is_known(call: &[u8]) -> bool
@@ -120,12 +120,12 @@ fn system_into(
         line,
         read.readable,
         z,
-        first_small_numbers(&strand_glues, read.strand_glues),
-        first_small_numbers(&scaffold, read.scaffold),
-        first_floats(delta_g, read.delta_g),
-        first_floats(entropy, read.entropy),
-        first_floats(&logs, read.logs),
-        first_small_numbers(&seeds, read.seeds),
+        front(&strand_glues, read.strand_glues),
+        front(&scaffold, read.scaffold),
+        front(delta_g, read.delta_g),
+        front(entropy, read.entropy),
+        front(&logs, read.logs),
+        front(&seeds, read.seeds),
         out,
     )
 }

@@ -13,6 +13,4 @@ pub use fields::{call_name, field, has_field, is_case, same};
 pub use places::{item_end, line_end};
 pub use plain::is_plain;
 pub use text_digits::{FloatValue, Number, float, number, whole};
-pub use text_fronts::{
-    first_bytes, first_floats, first_long_numbers, first_numbers, first_small_numbers,
-};
+pub use text_fronts::front;

@@ -1,7 +1,7 @@
 // Runs on a grid of 3 by 3 bays where every strand is legal on every bay, over an empty ledger: the refusal tells the need.
 use bay_lists::ConstraintKind;
 use bay_system::Sizes;
-use case_text::{first_floats, first_small_numbers};
+use case_text::front;
 use sdc2d_thermo::mfe_configuration;
 use units::EnergyAnswer;
 
@@ -27,11 +27,11 @@ fn nine_bays(strands: usize, strand_glues: usize) -> EnergyAnswer {
     let mut leaving: [u8; 0] = [];
     mfe_configuration(
         z,
-        first_small_numbers(&all_ones, strand_glues),
+        front(&all_ones, strand_glues),
         &scaffold,
         &delta_g,
         &entropy,
-        first_floats(&logs, strands),
+        front(&logs, strands),
         &seeds,
         ConstraintKind::Absent,
         &offsets,

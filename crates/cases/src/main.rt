@@ -33,5 +33,5 @@ fn main() {
     let mut out = [0u8; 32];
     let at = put_value(&mut out, 0, b"differ ", differ);
     let end = put_text(&mut out, at, b"\n");
-    io::write_all(STDOUT, case_text::first_bytes(&out, end));
+    io::write_all(STDOUT, case_text::front(&out, end));
 }

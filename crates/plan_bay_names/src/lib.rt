@@ -43,7 +43,7 @@ pub fn characters(text: &[u8]) -> usize
 }
 
 // How many bytes the first so many characters of a text have.
-pub fn front(text: &[u8], count: usize) -> usize
+pub fn front_bytes(text: &[u8], count: usize) -> usize
     ensures { result ≡ front_bytes count text.now }
 {
     let mut left = count;

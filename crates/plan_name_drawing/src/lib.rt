@@ -8,7 +8,7 @@ ghost use Rattle.text_put.specs.Puts.{Put};
 ghost use Rattle.plan_name_drawing.specs.Escaped.{escaped_byte, escaped};
 ghost use Rattle.plan_name_drawing.specs.Letters.{letter_size, line, two_lines, label};
 
-use plan_bay_names::{characters, front};
+use plan_bay_names::{characters, front_bytes};
 use text_fronts::least;
 use text_put::{chosen, put_form, put_text};
 
@@ -29,7 +29,7 @@ fn put_two_lines(first: usize, text: &[u8], out: &mut [u8], at: usize) -> usize
     ensures { Put out.old at (two_lines first text.now) result out.new }
 {
     let size = letter_size(first);
-    let end = front(text, first);
+    let end = front_bytes(text, first);
     let next = put_line(33, size, &text[..end], out, at);
     put_line(35 + size, size, &text[end..], out, next)
 }

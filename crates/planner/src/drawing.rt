@@ -3,7 +3,7 @@ use crate::messages::{begin, finish, say};
 use name_strands::NUMERALS;
 use plan_layout_svg::put_svg;
 use std::io::Write;
-use text_fronts::first_bytes;
+use text_fronts::front;
 use text_put::put_text;
 
 // Draws a layout into the file that the word at a place names; place 0 asks for none.
@@ -46,7 +46,7 @@ pub(crate) fn draw(
     }
     let mut file = io::buffer();
     let n = text_host::arg(rt, place, &mut file);
-    write_file(rt, folder, first_bytes(&file, n), first_bytes(page, end))
+    write_file(rt, folder, front(&file, n), front(page, end))
 }
 
 // Writes a file under another name first, so that under its own it is whole or what it was.
@@ -54,7 +54,7 @@ fn write_file(rt: &HostRuntime, folder: &[u8], file: &[u8], text: &[u8]) -> bool
     let mut partial = [0u8; 4200];
     let name = put_text(&mut partial, 0, file);
     let end = put_text(&mut partial, name, b".partial");
-    let own = first_bytes(&partial, end);
+    let own = front(&partial, end);
     if !write_new(rt, own, text) {
         say_unwritten(
             folder,

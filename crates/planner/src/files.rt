@@ -1,14 +1,14 @@
 // The six sheets of a folder, each read whole, and all but the register's tested to be text.
 use crate::messages::{begin, finish, finish_stray, put_with, say};
 use sheet_files::{FileRead, put_path};
-use text_fronts::first_bytes;
+use text_fronts::front;
 use text_put::put_text;
 
 // Whether a folder can be opened, which a plain file cannot be as one.
 pub(crate) fn is_folder_there(rt: &HostRuntime, folder: &[u8]) -> bool {
     let mut path = [0u8; 4200];
     let end = put_path(folder, b".", &mut path);
-    if text_host::open_read(rt, first_bytes(&path, end)).is_err() {
+    if text_host::open_read(rt, front(&path, end)).is_err() {
         say(folder, b"there is no such folder, or it cannot be read");
         return false;
     }

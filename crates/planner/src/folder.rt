@@ -3,7 +3,7 @@ use crate::files::{is_folder_there, is_sheet, is_whole};
 use crate::tables::plan_sheets;
 use crate::wish::Wish;
 use sheet_files::read_file;
-use text_fronts::first_bytes;
+use text_fronts::front;
 use text_plain::without_mark;
 
 // Plans a folder; the answer is whether it could be planned. Where not, one sentence stands on standard error and nothing on standard output.
@@ -17,7 +17,7 @@ pub(crate) fn plan_folder(rt: &HostRuntime, folder: &[u8], wish: Wish) -> bool {
 fn read_strands(rt: &HostRuntime, folder: &[u8], wish: Wish) -> bool {
     let mut room = [0u8; 65536];
     let read = read_file(rt, folder, b"strands.csv", &mut room);
-    let text = first_bytes(&room, read.bytes);
+    let text = front(&room, read.bytes);
     if !is_sheet(folder, b"strands.csv", read, 65536, text) {
         return false;
     }
@@ -27,7 +27,7 @@ fn read_strands(rt: &HostRuntime, folder: &[u8], wish: Wish) -> bool {
 fn read_scaffold(rt: &HostRuntime, folder: &[u8], wish: Wish, strands: &[u8]) -> bool {
     let mut room = [0u8; 65536];
     let read = read_file(rt, folder, b"scaffold.csv", &mut room);
-    let text = first_bytes(&room, read.bytes);
+    let text = front(&room, read.bytes);
     if !is_sheet(folder, b"scaffold.csv", read, 65536, text) {
         return false;
     }
@@ -43,7 +43,7 @@ fn read_energies(
 ) -> bool {
     let mut room = [0u8; 131072];
     let read = read_file(rt, folder, b"energies.csv", &mut room);
-    let text = first_bytes(&room, read.bytes);
+    let text = front(&room, read.bytes);
     if !is_sheet(folder, b"energies.csv", read, 131072, text) {
         return false;
     }
@@ -60,7 +60,7 @@ fn read_seeds(
 ) -> bool {
     let mut room = [0u8; 65536];
     let read = read_file(rt, folder, b"seeds.csv", &mut room);
-    let text = first_bytes(&room, read.bytes);
+    let text = front(&room, read.bytes);
     if !is_sheet(folder, b"seeds.csv", read, 65536, text) {
         return false;
     }
@@ -86,7 +86,7 @@ fn read_temperature(
 ) -> bool {
     let mut room = [0u8; 4096];
     let read = read_file(rt, folder, b"temperature.csv", &mut room);
-    let text = first_bytes(&room, read.bytes);
+    let text = front(&room, read.bytes);
     if !is_sheet(folder, b"temperature.csv", read, 4096, text) {
         return false;
     }
@@ -127,6 +127,6 @@ fn read_constraints(
         keys,
         seeds,
         temperature,
-        first_bytes(&room, read.bytes),
+        front(&room, read.bytes),
     )
 }

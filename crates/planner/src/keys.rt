@@ -8,7 +8,7 @@ use crate::strands::plan_strands;
 use crate::wish::Wish;
 use name_energy_keys::energy_keys;
 use sheet_keys::{KeyTexts, check_keys, put_keys};
-use text_fronts::{first_bytes, first_floats, first_numbers};
+use text_fronts::front;
 use units::{Check, Refusal};
 
 // Tests the sheet of keys, and plans on.
@@ -146,8 +146,8 @@ fn plan_matrices(
         glues,
         strand_glues,
         scaffold,
-        first_floats(&delta_g, pairs),
-        first_floats(&entropy, pairs),
+        front(&delta_g, pairs),
+        front(&entropy, pairs),
     )
 }
 
@@ -262,13 +262,13 @@ fn matrices_of(
     let after_names = 2 * records + 1;
     let after_keys = records + 1;
     matrices_lent(
-        first_bytes(text, texts.names),
-        first_numbers(offsets, after_names),
-        first_bytes(paired, records),
-        first_bytes(kinds, records),
-        first_floats(numbers, names),
-        first_bytes(sequences, texts.sequences),
-        first_numbers(sequence_offsets, after_keys),
+        front(text, texts.names),
+        front(offsets, after_names),
+        front(paired, records),
+        front(kinds, records),
+        front(numbers, names),
+        front(sequences, texts.sequences),
+        front(sequence_offsets, after_keys),
         bases,
         count,
         pairs,

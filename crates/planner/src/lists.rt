@@ -7,7 +7,7 @@ use crate::unplanned::say_run;
 use crate::wish::Wish;
 use bay_system::Sizes;
 use sheet::read_sheet;
-use text_fronts::{first_numbers, first_small_numbers};
+use text_fronts::front;
 use units::{CountAnswer, EnergyAnswer, Refusal};
 
 // Lends an offset for each bay and one more.
@@ -94,8 +94,8 @@ pub(crate) fn plan_lists(
             entropy,
             logs,
             seeds,
-            first_numbers(&offsets, places),
-            first_small_numbers(&tiles, n),
+            front(&offsets, places),
+            front(&tiles, n),
             text,
             name_offsets,
             present,
@@ -257,7 +257,7 @@ fn plan_run(
             text,
             name_offsets,
             present,
-            first_small_numbers(&layout, scaffold.len()),
+            front(&layout, scaffold.len()),
             energy,
             energies,
             notes,

@@ -32,7 +32,7 @@ use crate::messages::put_with;
 use crate::usage::{is_usable, write_help};
 use crate::wish::{Wish, asked_for};
 use crate::words::{folders, folders_at, is_folder, is_there};
-use text_fronts::first_bytes;
+use text_fronts::front;
 use text_put::put_text;
 
 // Says which folder is planned now.
@@ -43,14 +43,14 @@ fn write_progress(folder: &[u8], number: usize, count: usize) {
     let colon = put_text(&mut line, second, b": ");
     let name = put_text(&mut line, colon, folder);
     let end = put_text(&mut line, name, b"\n");
-    io::write_all(2, first_bytes(&line, end));
+    io::write_all(2, front(&line, end));
 }
 
 // Plans the folder that the word at a place names.
 fn plan_word(rt: &HostRuntime, place: usize, number: usize, count: usize, wish: Wish) -> bool {
     let mut room = io::buffer();
     let n = text_host::arg(rt, place, &mut room);
-    let folder = first_bytes(&room, n);
+    let folder = front(&room, n);
     if is_there(rt, b"--progress") {
         write_progress(folder, number, count);
     }

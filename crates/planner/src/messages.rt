@@ -1,7 +1,7 @@
 // Sentences on standard error. Each begins with the folder that it is about and ends its line.
 ghost use Rattle.std.specs.Prelude.{◌≤◌};
 
-use text_fronts::first_bytes;
+use text_fronts::front;
 use text_put::{put_number, put_text};
 
 // The front of a sentence about a folder.
@@ -15,7 +15,7 @@ pub(crate) fn begin(line: &mut [u8], folder: &[u8]) -> usize {
 pub(crate) fn finish(line: &mut [u8], at: usize, rest: &[u8]) {
     let text = put_text(line, at, rest);
     let end = put_text(line, text, b"\n");
-    io::write_all(2, first_bytes(line, end));
+    io::write_all(2, front(line, end));
 }
 
 // Writes a sentence about a sheet that is no text, by the place of its first byte that is no part of one.

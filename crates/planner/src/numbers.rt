@@ -26,7 +26,7 @@ pub(crate) fn write_numbers(
     match write_sheet(
         rows,
         cols,
-        text_fronts::first_numbers(&offsets, layout.len() + 1),
+        text_fronts::front(&offsets, layout.len() + 1),
         layout,
         page,
     ) {

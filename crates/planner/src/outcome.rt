@@ -10,7 +10,7 @@ use crate::summary::write_summary;
 use crate::why::write_why;
 use crate::wish::Wish;
 use bay_system::Sizes;
-use text_fronts::{first_bytes, first_long_numbers};
+use text_fronts::front;
 use units::Check;
 
 // Whether what is asked for has room: a grid of names is written only where one is shown.
@@ -99,7 +99,7 @@ pub(crate) fn show(
     ) {
         return false;
     }
-    let shown = first_bytes(&marks, layout.len());
+    let shown = front(&marks, layout.len());
     if !draw(
         rt,
         folder,
@@ -210,7 +210,7 @@ fn show_whole(
         present,
         layout,
         marks,
-        first_long_numbers(&sets, layout.len()),
+        front(&sets, layout.len()),
     ) {
         return false;
     }

@@ -1,9 +1,9 @@
 // The refusals of the rules as sentences: the number, the place as people count it, and what to mend.
 use crate::messages::{after, begin, finish, finish_stray, put_bay, put_field, put_with};
-use plan_bay_names::front;
+use plan_bay_names::front_bytes;
 use sheet_names::put_content;
 use sheet_records::place_after;
-use text_fronts::first_bytes;
+use text_fronts::front;
 use text_plain::{first_stray, without_mark};
 use text_put::put_text;
 use units::{Check, Refusal};
@@ -149,7 +149,7 @@ fn is_sequence(keys: &[u8], at: usize) -> bool {
     if n == 0 {
         return true;
     }
-    match dna_single::check_single(first_bytes(&letters, n), 0) {
+    match dna_single::check_single(front(&letters, n), 0) {
         Check::Passed => true,
         Check::Refused(_) => false,
     }
@@ -213,8 +213,8 @@ fn put_shown(line: &mut [u8], at: usize, sheet: &[u8], seed: usize, column: usiz
     }
     let mut content = [0u8; 164];
     let n = put_content(sheet, place, &mut content, 0);
-    let shown = first_bytes(&content, n);
-    put_text(line, at, first_bytes(shown, front(shown, 40)))
+    let shown = front(&content, n);
+    put_text(line, at, front(shown, front_bytes(shown, 40)))
 }
 
 // Where a field of a seed's record begins.

@@ -13,7 +13,7 @@ use name_strands::NUMERALS;
 use sheet_names::put_content;
 use sheet_numbers::put_decimals;
 use sheet_seeds::{PlaceFault, put_places, put_seed_names};
-use text_fronts::{first_bytes, first_numbers, first_small_numbers};
+use text_fronts::front;
 use text_put::put_text;
 use units::{Check, Refusal};
 
@@ -24,7 +24,7 @@ fn is_none(sheet: &[u8]) -> bool {
     }
     let mut word = [0u8; 8];
     let n = put_content(sheet, 0, &mut word, 0);
-    same(first_bytes(&word, n), b"none")
+    same(front(&word, n), b"none")
 }
 
 // Reads the seeds, and plans on.
@@ -70,7 +70,7 @@ pub(crate) fn plan_seeds(
         delta_g,
         entropy,
         logs,
-        first_small_numbers(&seeds, read.numbers),
+        front(&seeds, read.numbers),
         text,
         offsets,
         present,
@@ -192,9 +192,9 @@ fn seeds_of(
         text,
         offsets,
         present,
-        first_numbers(&places, pairs),
-        first_bytes(&names, end),
-        first_numbers(&name_offsets, count + 1),
+        front(&places, pairs),
+        front(&names, end),
+        front(&name_offsets, count + 1),
         triples,
         seeds,
     ) {

@@ -3,12 +3,12 @@ use crate::messages::say;
 use name_strands::NUMERALS;
 use plan_bay_names::name_of;
 use text_energy::put_energy;
-use text_fronts::first_bytes;
+use text_fronts::front;
 use text_put::{put_float, put_text};
 
 // Writes the front of a text to standard output.
 pub(crate) fn write_front(folder: &[u8], text: &[u8], end: usize) -> bool {
-    if io::write_all(1, first_bytes(text, end)) {
+    if io::write_all(1, front(text, end)) {
         return true;
     }
     say(folder, b"standard output cannot be written");

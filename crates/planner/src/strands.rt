@@ -5,7 +5,7 @@ use crate::messages::{say, say_field};
 use crate::seeds::plan_seeds;
 use crate::wish::Wish;
 use sheet_strands::{put_logs, put_names};
-use text_fronts::{first_bytes, first_floats, first_numbers};
+use text_fronts::front;
 
 // Reads the names into tables that have room for 64.
 fn read_names(
@@ -86,9 +86,9 @@ pub(crate) fn plan_strands(
         scaffold,
         delta_g,
         entropy,
-        first_floats(&logs, strands),
-        first_bytes(&text, end),
-        first_numbers(&offsets, strands + 1),
-        first_bytes(&present, strands),
+        front(&logs, strands),
+        front(&text, end),
+        front(&offsets, strands + 1),
+        front(&present, strands),
     )
 }

@@ -162,8 +162,8 @@ fn plan_grid(
         count,
         &mut text,
         end,
-        text_fronts::first_small_numbers(&strand_glues, records * 5 + 5),
-        text_fronts::first_small_numbers(&scaffold, bays),
+        text_fronts::front(&strand_glues, records * 5 + 5),
+        text_fronts::front(&scaffold, bays),
         &bases,
     )
 }

@@ -2,7 +2,7 @@
 use crate::lent::rules_lent;
 use crate::messages::{after, begin, finish, put_bay, put_with};
 use bay_system::Sizes;
-use text_fronts::first_bytes;
+use text_fronts::front;
 use text_put::put_text;
 use units::{Check, Refusal};
 
@@ -104,7 +104,7 @@ fn say_no_strand(
         &mut line,
         none,
         list_of(offsets, tiles, bay),
-        first_bytes(&rules, z.strands),
+        front(&rules, z.strands),
     );
     finish(
         &mut line,
@@ -135,7 +135,7 @@ fn list_of<'a>(offsets: &[usize], tiles: &'a [u32], bay: usize) -> &'a [u32] {
 
 // The numbers of a list, no more than the first eight, then the rule that forbids each, and the seed that the list leaves out.
 fn put_list(line: &mut [u8], at: usize, list: &[u32], rules: &[u8]) -> usize {
-    let shown = text_fronts::first_small_numbers(list, 8);
+    let shown = text_fronts::front(list, 8);
     let numbers = put_numbers(line, at, shown);
     let more = put_more(line, numbers, list.len());
     let reasons = put_reasons(line, more, shown, rules);

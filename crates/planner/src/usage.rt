@@ -2,7 +2,7 @@
 use crate::messages::say;
 use crate::wish::asked_for;
 use crate::words::{WordFault, first_fault, folders, is_there, stands_twice};
-use text_fronts::first_bytes;
+use text_fronts::front;
 
 // Writes how the planner is called.
 pub(crate) fn write_help() -> bool {
@@ -37,7 +37,7 @@ constraints.csv   the register's sheet: a 0 alone keeps a bay empty\n",
 fn say_word(rt: &HostRuntime, fault: WordFault) {
     let mut room = io::buffer();
     let n = text_host::arg(rt, fault.place, &mut room);
-    let word = first_bytes(&room, n);
+    let word = front(&room, n);
     if fault.fault == 1 {
         return say(b"usage", b"a word is longer than 4095 bytes");
     }

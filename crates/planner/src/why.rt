@@ -7,7 +7,7 @@ use crate::refusals::say_tables;
 use crate::standard::{put_kcal, put_strand, write_front};
 use crate::wish::Wish;
 use bay_system::Sizes;
-use text_fronts::first_bytes;
+use text_fronts::front;
 use text_put::put_text;
 use units::{Check, EnergyAnswer};
 
@@ -89,7 +89,7 @@ pub(crate) fn write_why(
         name_offsets,
         present,
         bay,
-        first_bytes(&rules, z.strands),
+        front(&rules, z.strands),
         energies,
         notes,
     )

@@ -2,7 +2,7 @@
 use crate::messages::after;
 use crate::words::{is_there, place_of};
 use sheet_number_lists::plain_number;
-use text_fronts::first_bytes;
+use text_fronts::front;
 
 // What is to be shown. `why` says that a bay is asked about, which has a row and a column from 1; `svg` is the place of the word that
 // names the drawing's file, 0 where none is wanted.
@@ -53,7 +53,7 @@ pub(crate) fn bay_of(text: &[u8]) -> Bay {
         return Bay { row: 0, column: 0 };
     }
     Bay {
-        row: count_of(first_bytes(text, at)),
+        row: count_of(front(text, at)),
         column: count_of(&text[at + 1..]),
     }
 }
@@ -62,7 +62,7 @@ pub(crate) fn bay_of(text: &[u8]) -> Bay {
 fn bay_at(rt: &HostRuntime, place: usize) -> Bay {
     let mut room = io::buffer();
     let n = text_host::arg(rt, place, &mut room);
-    bay_of(first_bytes(&room, n))
+    bay_of(front(&room, n))
 }
 
 // The place after that of an option, 0 where it is not there.

@@ -2,7 +2,7 @@
 ghost use Rattle.std.specs.Prelude.{◌≤◌};
 
 use crate::messages::after;
-use text_fronts::first_bytes;
+use text_fronts::front;
 
 // Whether a text has another at its front.
 pub(crate) fn begins(text: &[u8], front: &[u8]) -> bool {
@@ -31,14 +31,14 @@ pub(crate) fn same(a: &[u8], b: &[u8]) -> bool {
 fn is_word(rt: &HostRuntime, place: usize, word: &[u8]) -> bool {
     let mut room = io::buffer();
     let n = text_host::arg(rt, place, &mut room);
-    same(first_bytes(&room, n), word)
+    same(front(&room, n), word)
 }
 
 // Whether the word at a place begins with a dash.
 fn is_dashed(rt: &HostRuntime, place: usize) -> bool {
     let mut room = io::buffer();
     let n = text_host::arg(rt, place, &mut room);
-    begins(first_bytes(&room, n), b"-")
+    begins(front(&room, n), b"-")
 }
 
 // Whether the word at a place is as short as a path has to be.

@@ -115,5 +115,5 @@ pub fn read_file(rt: &impl Files, folder: &[u8], name: &[u8], room: &mut [u8]) -
 {
     let mut path = io::buffer();
     let end = put_path(folder, name, &mut path);
-    read_path(rt, text_fronts::first_bytes(&path, end), room)
+    read_path(rt, text_fronts::front(&path, end), room)
 }

@@ -9,7 +9,7 @@ ghost use Rattle.sheet_glues.specs.SheetGlues.{sheet_glues, bytes_laid, laid_nam
 
 use name_registering::register;
 use sheet_names::{Entries, put_columns};
-use text_fronts::{first_bytes, first_numbers};
+use text_fronts::front;
 use units::CountAnswer;
 
 // Registers the glue names of two sheets: fields 3 to 7 of each strand's record, then the scaffold's fields row by row. A
@@ -114,9 +114,9 @@ fn register_fronts(
         rows,
         cols,
         strands,
-        first_bytes(text, all.bytes),
-        first_numbers(offsets, all.entries + 1),
-        first_bytes(present, all.entries),
+        front(text, all.bytes),
+        front(offsets, all.entries + 1),
+        front(present, all.entries),
         strand_glues,
         scaffold,
         bases,

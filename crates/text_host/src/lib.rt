@@ -108,7 +108,7 @@ pub fn fail(alloc: Global, what: &[u8], error: Error) {
 }
 
 fn fail_in_words(what: &[u8], text: &str) {
-    let words = text_fronts::first_bytes(text.as_bytes(), words_length(text));
+    let words = text_fronts::front(text.as_bytes(), words_length(text));
     io::write_all(2, what);
     io::write_all(2, b": ");
     io::write_all(2, words);

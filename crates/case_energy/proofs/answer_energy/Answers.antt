@@ -15,4 +15,4 @@ returns c = let a = c.args in
     let s = system a.z a.strand_glues.now a.scaffold.now a.delta_g.now a.entropy.now a.logs.now a.seeds.now in
     let r = c.small_numbers_field-read.result in
     let e = c.small_numbers_field-read.ensures in
-    put_as (asked s a.line.now r e.answer c.if-not-read.false _ _ _ refl e.table c.first_small_numbers-layout.ensures _ c.state_g-answer.ensures.answer) c.put_energy.ensures
+    put_as (asked s a.line.now r e.answer c.if-not-read.false _ _ _ refl e.table c.front-layout.ensures _ c.state_g-answer.ensures.answer) c.put_energy.ensures

@@ -5,4 +5,4 @@ use Rattle.case_parts.proofs.numbers_from.Goals as goal
 
 pub returns : goal.returns
 returns c = let a = c.args in
-    c.first_numbers.ensures ∙ as_from a.table.now a.from a.count c.least-at.ensures
+    c.front.ensures ∙ as_from a.table.now a.from a.count c.least-at.ensures

@@ -5,5 +5,5 @@ use Rattle.sheet_glues.proofs.register_fronts.Goals as goal
 pub returns : goal.returns
 returns c = let a = c.args in
     let e = c.register.ensures in
-    registers_fronts a.rows a.cols a.strands c.first_bytes.ensures c.first_numbers.ensures c.first_bytes-2.ensures
+    registers_fronts a.rows a.cols a.strands c.front.ensures c.front-2.ensures c.front-3.ensures
     (e.refusal, (e.answer, (e.glues, (e.scaffold, e.bases))))

@@ -1,6 +1,6 @@
--- `plan_bay_names::front` meets its contract: the invariant is that the bytes passed and those to come are the bytes asked for. Assumes nothing.
+-- `plan_bay_names::front_bytes` meets its contract: the invariant is that the bytes passed and those to come are the bytes asked for. Assumes nothing.
 use Rattle.plan_bay_names.proofs.Fronts.{front_found, front_goes_on, front_ends}
-use Rattle.plan_bay_names.proofs.front.Goals as goal
+use Rattle.plan_bay_names.proofs.front_bytes.Goals as goal
 
 pub returns-then-left-begun : goal.returns-then-left-begun
 returns-then-left-begun c = let a = c.args in

@@ -1,9 +1,0 @@
--- `text_fronts::first_bytes` meets its contract. Assumes nothing.
-use Rattle.text_fronts.proofs.Taking.{taken_count, taken_is}
-use Rattle.text_fronts.proofs.first_bytes.Goals as goal
-
-pub slice_bounds-result-end : goal.slice_bounds-result-end
-slice_bounds-result-end c = taken_count c.args.s.now c.args.n c.least-k.ensures
-
-pub returns : goal.returns
-returns c = taken_is c.args.s.now c.args.n c.least-k.ensures
