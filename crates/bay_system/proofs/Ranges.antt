@@ -2,7 +2,6 @@
 use Prim.Native.Nat.{ℕ, ◌*◌, ◌%◌, ◌≤◌}
 use mathlib.Core.Path.{◌≡◌}
 use mathlib.Core.Bool.{true, not, ◌&&◌}
-use mathlib.Core.List.{[]}
 use lib.Dec.{leb, eqb}
 use lib.ListN.{length}
 use borrow.Author.Tests.{leb-true, eqb-true, not-false}
@@ -68,7 +67,7 @@ pub record Shaped (s : System) : Type 0 where
 
 pub shaped : (s : System) → sizes_verdict s ≡ passes → Shaped s
 shaped s e =
-    let both = not-false (sizes_fit s.sizes && lengths_fit s) (no_fault (not (sizes_fit s.sizes && lengths_fit s)) 1 [] e) in
+    let both = not-false (sizes_fit s.sizes && lengths_fit s) (no_fault (not (sizes_fit s.sizes && lengths_fit s)) _ e) in
     let f = and_right (sizes_fit s.sizes) (lengths_fit s) both in
     let t1 = eqb (length s.strand_glues) (s.sizes.strands * 5) in
     let t2 = eqb (length s.scaffold) (s.sizes.rows * s.sizes.cols) in

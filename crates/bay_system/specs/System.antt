@@ -3,7 +3,9 @@ use Rattle.std.specs.Prelude.{ℕ, zero, suc, ◌*◌, ◌/◌, ◌%◌, Bool, c
 use Rattle.units.specs.Kelvin.{in_kelvin_range}
 use Rattle.units.specs.Limits.{most_side, most_strands, most_glues, from_one_to}
 use Rattle.units.specs.Refusals.{Verdict, refuse_if, ◌▷◌}
+use Rattle.units.specs.declared.refusal.Refusal.TheVariants.{Size, Seed}
 use Rattle.bay_system.specs.declared.sizes.Sizes.{Sizes}
+use Rattle.bay_system.specs.declared.system.System as declared
 -- 2 and 3, and what is a log concentration, are passed on from where they stand
 pub use Rattle.bay_table_checks.specs.Tables.{glues_verdict, energies_verdict}
 unfoldable pub use Rattle.bay_table_checks.specs.Tables.{is_log}
@@ -18,16 +20,17 @@ pub record System : Type 0 where
   pub logs : List Float
   pub seeds : List ℕ
 
-abbrev pub system : Sizes → (strand_glues scaffold : List ℕ) → (delta_g entropy logs : List Float) → (seeds : List ℕ) → System
-system sizes strand_glues scaffold delta_g entropy logs seeds =
+-- the same of the slices that are lent
+abbrev pub system_of : declared.System → System
+system_of s =
     record {
-      sizes = sizes;
-      strand_glues = strand_glues;
-      scaffold = scaffold;
-      delta_g = delta_g;
-      entropy = entropy;
-      logs = logs;
-      seeds = seeds;
+      sizes = s.sizes;
+      strand_glues = s.strand_glues.now;
+      scaffold = s.scaffold.now;
+      delta_g = s.delta_g.now;
+      entropy = s.entropy.now;
+      logs = s.logs.now;
+      seeds = s.seeds.now;
     }
 
 -- how many bays a grid has
@@ -52,7 +55,7 @@ lengths_fit s =
 
 -- 1: a size or the temperature is out of range, or a slice has the wrong length
 abbrev pub sizes_verdict : System → Verdict
-sizes_verdict s = refuse_if (not (sizes_fit s.sizes && lengths_fit s)) 1 []
+sizes_verdict s = refuse_if (not (sizes_fit s.sizes && lengths_fit s)) Size
 
 -- a seed lies on the grid and its strand is below the count
 abbrev pub seed_fits : Sizes → (row col strand : ℕ) → Bool
@@ -67,7 +70,7 @@ first_bad_seed z (row ∷ col ∷ strand ∷ seeds) = cond (seed_fits z row col 
 
 -- 4, with the seed's place: a seed is off the grid, or its strand is not below the count
 abbrev pub seeds_verdict : Sizes → (seeds : List ℕ) → Verdict
-seeds_verdict z seeds = refuse_if (ltb (first_bad_seed z seeds) (length seeds / 3)) 4 (first_bad_seed z seeds ∷ [])
+seeds_verdict z seeds = refuse_if (ltb (first_bad_seed z seeds) (length seeds / 3)) (Seed (first_bad_seed z seeds))
 
 -- 1 to 4, in rising order
 abbrev pub system_verdict : System → Verdict

@@ -5,4 +5,4 @@ mod sizes;
 mod system;
 
 pub use sizes::Sizes;
-pub use system::check_system;
+pub use system::{System, check_system};

@@ -2,6 +2,8 @@
 ghost use Rattle.std.specs.Prelude.{◌≡◌};
 ghost use Rattle.bay_system.specs.System.{sizes_fit};
 
+use units::{MOST_GLUES, MOST_SIDE, MOST_STRANDS, from_one_to, in_kelvin_range};
+
 #[derive(Clone, Copy)]
 pub struct Sizes {
     pub rows: usize,
@@ -15,9 +17,9 @@ pub struct Sizes {
 pub(crate) fn sizes_fit(z: Sizes) -> bool
     ensures { result ≡ sizes_fit z }
 {
-    let rows = units::from_one_to(units::MOST_SIDE, z.rows);
-    let cols = units::from_one_to(units::MOST_SIDE, z.cols);
-    let strands = units::from_one_to(units::MOST_STRANDS, z.strands);
-    let glues = units::from_one_to(units::MOST_GLUES, z.glues);
-    rows & (cols & (strands & (glues & units::in_kelvin_range(z.kelvin))))
+    from_one_to(MOST_SIDE, z.rows)
+        && from_one_to(MOST_SIDE, z.cols)
+        && from_one_to(MOST_STRANDS, z.strands)
+        && from_one_to(MOST_GLUES, z.glues)
+        && in_kelvin_range(z.kelvin)
 }

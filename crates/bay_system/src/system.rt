@@ -1,123 +1,80 @@
 // What is refused of a system: 1, then 2 and 3 of its tables and 4 of its seeds, with the first place.
-ghost use Rattle.std.specs.Prelude.{◌≡◌, true, ◌+◌, ◌%◌, ◌<◌, length, get_or};
-ghost use Rattle.units.specs.Refusals.{check, Prints};
-ghost use Rattle.bay_system.specs.System.{system, sizes_fit, seed_fits, first_bad_seed, lengths_fit, sizes_verdict, seeds_verdict, system_verdict};
+ghost use Rattle.std.specs.Prelude.{◌≡◌, true, ◌%◌, length};
+ghost use Rattle.bay_system.specs.System.{system_of, sizes_fit, seed_fits, lengths_fit, sizes_verdict, seeds_verdict, system_verdict};
 
 use crate::sizes::{Sizes, sizes_fit};
-use bay_table_checks::{check_energies, check_glues, place_check};
-use units::Check;
+use bay_table_checks::{check_energies, check_glues};
+use units::Refusal;
+
+// What every call on a system is lent.
+#[derive(Clone, Copy)]
+pub struct System<'a> {
+    pub sizes: Sizes,
+    // Five glues a strand.
+    pub strand_glues: &'a [u32],
+    // One glue a bay, row by row.
+    pub scaffold: &'a [u32],
+    // Two square matrices over the glues.
+    pub delta_g: &'a [f64],
+    pub entropy: &'a [f64],
+    // One logarithm a strand.
+    pub logs: &'a [f64],
+    // Row, column and strand of each seed.
+    pub seeds: &'a [u32],
+}
 
 // Whether a seed lies on the grid and its strand is below the count.
 fn seed_fits(z: Sizes, row: u32, col: u32, strand: u32) -> bool
     ensures { result ≡ seed_fits z row col strand }
 {
-    ((row as usize) < z.rows) & (((col as usize) < z.cols) & ((strand as usize) < z.strands))
+    (row as usize) < z.rows && (col as usize) < z.cols && (strand as usize) < z.strands
 }
 
-// The same of the seed that stands at a place of the list: row, column, strand.
-fn seed_fits_at(z: Sizes, seeds: &[u32], at: usize) -> bool
-    requires { at + 2 < length seeds.now }
-    ensures { result ≡ seed_fits z (get_or seeds.now at 0) (get_or seeds.now (at + 1) 0) (get_or seeds.now (at + 2) 0) }
-{
-    seed_fits(z, seeds[at], seeds[at + 1], seeds[at + 2])
-}
-
-// The number of the first seed that is off the grid or has no such strand, or the count of seeds where none is.
-fn first_bad_seed(z: Sizes, seeds: &[u32]) -> usize
+// Refusal 4 with the first seed that is off the grid or has no such strand.
+fn check_seeds(z: Sizes, seeds: &[u32]) -> Result<(), Refusal>
     requires { length seeds.now % 3 ≡ 0 }
-    ensures { result ≡ first_bad_seed z seeds.now }
+    ensures { result ≡ seeds_verdict z seeds.now }
 {
-    let mut at = 0;
-    let mut i = 0;
-    while at < seeds.len() {
-        if !seed_fits_at(z, seeds, at) {
-            return i;
+    for i in 0..seeds.len() / 3 {
+        if !seed_fits(z, seeds[3 * i], seeds[3 * i + 1], seeds[3 * i + 2]) {
+            return Err(Refusal::Seed(i));
         }
-        at += 3;
-        i += 1;
     }
-    i
-}
-
-// Refusal 4 with the first such seed.
-fn check_seeds(z: Sizes, seeds: &[u32]) -> Check
-    requires { length seeds.now % 3 ≡ 0 }
-    ensures { result ≡ check (seeds_verdict z seeds.now) }
-{
-    place_check(4, 0, first_bad_seed(z, seeds), seeds.len() / 3)
+    Ok(())
 }
 
 // Whether the slices are as long as sizes in range ask.
-fn lengths_fit(
-    z: Sizes,
-    strand_glues: &[u32],
-    scaffold: &[u32],
-    delta_g: &[f64],
-    entropy: &[f64],
-    logs: &[f64],
-    seeds: &[u32],
-) -> bool
-    requires { sizes_fit z ≡ true }
-    ensures { let s = system z strand_glues.now scaffold.now delta_g.now entropy.now logs.now seeds.now in
-        result ≡ lengths_fit s }
+fn lengths_fit(system: &System<'_>) -> bool
+    requires { sizes_fit system.now.sizes ≡ true }
+    ensures { result ≡ lengths_fit (system_of system.now) }
 {
-    let bays = z.rows * z.cols;
+    let z = system.sizes;
     let cells = z.glues * z.glues;
-    (strand_glues.len() == z.strands * 5)
-        & ((scaffold.len() == bays)
-            & ((delta_g.len() == cells)
-                & ((entropy.len() == cells)
-                    & ((logs.len() == z.strands) & (seeds.len() % 3 == 0)))))
+    system.strand_glues.len() == z.strands * 5
+        && system.scaffold.len() == z.rows * z.cols
+        && system.delta_g.len() == cells
+        && system.entropy.len() == cells
+        && system.logs.len() == z.strands
+        && system.seeds.len() % 3 == 0
 }
 
 // Refusal 1: a size or the temperature is out of range, or a slice has the wrong length.
-fn check_sizes(
-    z: Sizes,
-    strand_glues: &[u32],
-    scaffold: &[u32],
-    delta_g: &[f64],
-    entropy: &[f64],
-    logs: &[f64],
-    seeds: &[u32],
-) -> Check
-    ensures { let s = system z strand_glues.now scaffold.now delta_g.now entropy.now logs.now seeds.now in
-        result ≡ check (sizes_verdict s) }
+fn check_sizes(system: &System<'_>) -> Result<(), Refusal>
+    ensures { result ≡ sizes_verdict (system_of system.now) }
 {
-    if sizes_fit(z) {
-        if lengths_fit(z, strand_glues, scaffold, delta_g, entropy, logs, seeds) {
-            return Check::Passed;
-        }
-        return units::refused(1);
+    if sizes_fit(system.sizes) && lengths_fit(system) {
+        Ok(())
+    } else {
+        Err(Refusal::Size)
     }
-    units::refused(1)
 }
 
 // What is refused of a system before anything else is asked: none, or the first of 1 to 4 with its place.
-pub fn check_system(
-    z: Sizes,
-    strand_glues: &[u32],
-    scaffold: &[u32],
-    delta_g: &[f64],
-    entropy: &[f64],
-    logs: &[f64],
-    seeds: &[u32],
-) -> Check
-    ensures refusal { let s = system z strand_glues.now scaffold.now delta_g.now entropy.now logs.now seeds.now in
-        Prints result (system_verdict s) }
-    ensures answer { let s = system z strand_glues.now scaffold.now delta_g.now entropy.now logs.now seeds.now in
-        result ≡ check (system_verdict s) }
+pub fn check_system(system: &System<'_>) -> Result<(), Refusal>
+    ensures { result ≡ system_verdict (system_of system.now) }
 {
-    match check_sizes(z, strand_glues, scaffold, delta_g, entropy, logs, seeds) {
-        Check::Refused(r) => return Check::Refused(r),
-        Check::Passed => (),
-    }
-    match check_glues(strand_glues, scaffold, z.glues) {
-        Check::Refused(r) => return Check::Refused(r),
-        Check::Passed => (),
-    }
-    match check_energies(delta_g, entropy, logs) {
-        Check::Refused(r) => return Check::Refused(r),
-        Check::Passed => (),
-    }
-    check_seeds(z, seeds)
+    check_sizes(system)?;
+    check_glues(system.strand_glues, system.scaffold, system.sizes.glues)?;
+    check_energies(system.delta_g, system.entropy, system.logs)?;
+    check_seeds(system.sizes, system.seeds)
 }

@@ -1,16 +1,23 @@
--- `bay_system::system::check_seeds` meets its contract. Assumes nothing.
-use Prim.Native.Nat.{ℕ, ◌/◌}
-use mathlib.Core.List.{[], ◌∷◌}
-use mathlib.Core.Path.{◌∙◌, ap}
-use native.Mathlib.Nat.{zero-add}
-use lib.Dec.{ltb}
+-- `bay_system::system::check_seeds` meets its contract: seed i stands at place 3i. Assumes nothing.
+use Prim.Native.Nat.{◌+◌, ◌*◌, ◌<◌}
+use mathlib.Core.Path.{◌≡◌, ◌∙◌, sym}
+use native.Mathlib.Omega.{arith}
 use lib.ListN.{length}
-use Rattle.units.specs.Refusals.{check, refuse_if}
+use borrow.Author.Tests.{lt-ltb}
+use Rattle.bay_system.specs.System.{first_bad_seed}
+use Rattle.bay_system.proofs.Seeds.{seed_passes, seed_fails}
 use Rattle.bay_system.proofs.system.check_seeds.Goals as goal
 
-pub returns : goal.returns
-returns c = let a = c.args in
-    let n = length a.seeds.now / 3 in
-    c.place_check.ensures
-    ∙ ap (λ (p : ℕ). check (refuse_if (ltb c.first_bad_seed.result n) 4 (p ∷ []))) (zero-add c.first_bad_seed.result)
-    ∙ ap (λ (p : ℕ). check (refuse_if (ltb p n) 4 (p ∷ []))) c.first_bad_seed.ensures
+pub returns-then-not-seed_fits : goal.returns-then-not-seed_fits
+returns-then-not-seed_fits c = let a = c.args in let i = c.loop-i.i in
+    let more : 3 * i + 2 < length a.seeds.now = omega arith in
+    let first : first_bad_seed a.z a.seeds.now ≡ i
+    = c.loop-i.invariant ∙ seed_fails a.z a.seeds.now (3 * i) i more (sym c.seed_fits.ensures ∙ c.if-not-seed_fits.true) in
+    rw (first, lt-ltb _ _ c.loop-i-test.true)
+
+pub loop-i-preserved : goal.loop-i-preserved
+loop-i-preserved c = let a = c.args in let i = c.loop-i.i in
+    let more : 3 * i + 2 < length a.seeds.now = omega arith in
+    let next : 3 * i + 3 ≡ 3 * (i + 1) = omega arith in
+    c.loop-i.invariant
+    ∙ (rw next at (seed_passes a.z a.seeds.now (3 * i) i more (sym c.seed_fits.ensures ∙ c.if-not-seed_fits.false)))
