@@ -10,7 +10,7 @@ ghost use Rattle.floats.specs.Least.{better};
 pub fn is_bad(x: f64) -> bool
     ensures { result ≡ not (lt (inf true) x) }
 {
-    !(-1.0 / 0.0 < x)
+    !(f64::NEG_INFINITY < x)
 }
 
 // A running choice: the least energy so far, and whose it is (a place, a strand).
