@@ -4,13 +4,12 @@ use mathlib.Core.List.{List, [], map}
 use lib.IntN.{pos}
 use lib.Ieee.{Float, nan, of_bits, neg}
 use lib.ListN.{get_or}
-use native.Mathlib.Omega.{arith}
 use Rattle.units.specs.Decimals.{decimal}
 use Rattle.dna_mismatches.specs.Mismatches.{hundredths, penalty_table, calc_penalty}
 use Rattle.dna_letters.specs.declared.DnaNucleotideBase.{DnaNucleotideBase}
 use Rattle.dna_letters.specs.declared.DnaNucleotideBase.TheVariants.{A, T, G, C}
 use Rattle.dna_letters.specs.Bases.{index_of}
-use Rattle.dna_letters.proofs.Tables.{index_lt, each_base}
+use Rattle.dna_letters.proofs.Tables.{each_base}
 use Rattle.dna_mismatches.proofs.calc_penalty.Goals as goal
 
 -- the cell of the floats is the cell of the printed hundredths, rounded once, whatever stands for a missing row
@@ -49,24 +48,6 @@ right d e p x y =
     (each_base (λ y. Right d e C C y) refl refl refl refl y)
     x)
     p
-
-pub offset_bounds-index : goal.offset_bounds-index
-offset_bounds-index c = let a = c.args in omega (arith, index_lt a.prior, index_lt a.x, index_lt a.y)
-
-pub offset_bounds-index-index : goal.offset_bounds-index-index
-offset_bounds-index-index c = let a = c.args in omega (arith, index_lt a.prior, index_lt a.x, index_lt a.y)
-
-pub offset_bounds-index-index-2 : goal.offset_bounds-index-index-2
-offset_bounds-index-index-2 c = let a = c.args in omega (arith, index_lt a.prior, index_lt a.x, index_lt a.y)
-
-pub bounds-index : goal.bounds-index
-bounds-index c = let a = c.args in omega (arith, index_lt a.prior, index_lt a.x, index_lt a.y)
-
-pub bounds-index-2 : goal.bounds-index-2
-bounds-index-2 c = let a = c.args in omega (arith, index_lt a.prior, index_lt a.x, index_lt a.y)
-
-pub bounds-index-3 : goal.bounds-index-3
-bounds-index-3 c = let a = c.args in omega (arith, index_lt a.prior, index_lt a.x, index_lt a.y)
 
 pub returns : goal.returns
 unfolding of_bits neg decimal penalty_table calc_penalty
