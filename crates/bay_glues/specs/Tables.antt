@@ -4,6 +4,7 @@ use Rattle.std.specs.Float.{nan}
 use Rattle.units.specs.declared.BaseEnergy.{BaseEnergy}
 use Rattle.units.specs.declared.StrandGlues.{StrandGlues}
 use Rattle.units.specs.Glues.{strand_glues}
+use Rattle.bay_system.specs.System.{System}
 
 -- where a strand's glues stand among its five: clockwise from the north, then the bottom
 abbrev pub north_at : ℕ
@@ -35,5 +36,10 @@ abbrev pub scaffold_glue : List ℕ → ℕ → ℕ
 scaffold_glue scaffold bay = get_or scaffold bay 0
 
 -- cell (a, b)
-abbrev pub cell_of : (delta_g entropy : List Float) → (glues a b : ℕ) → BaseEnergy
-cell_of delta_g entropy glues a b = record { dg = get_or delta_g (a * glues + b) nan; ds = get_or entropy (a * glues + b) nan }
+abbrev pub cell_of : System → (a b : ℕ) → BaseEnergy
+cell_of s a b =
+    let at = a * s.sizes.glues + b in record { dg = get_or s.delta_g at nan; ds = get_or s.entropy at nan }
+
+-- the log concentration of a strand
+abbrev pub log_of : System → (strand : ℕ) → Float
+log_of s strand = get_or s.logs strand nan

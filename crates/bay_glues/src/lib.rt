@@ -1,11 +1,13 @@
-// The flat tables of a system, read: the five glues of a strand, the glue of a bay, a cell of the two matrices. Every reader is total: what a
-// table does not hold is glue 0, or a NaN.
+// The flat tables of a system, read: the five glues of a strand, the glue of a bay, a cell of the two matrices, a strand's log concentration.
+// Every reader is total: what a table does not hold is glue 0, or a NaN.
 #![tactic(auto)]
 
 ghost use Rattle.std.specs.Prelude.{◌≡◌, ◌+◌, ◌*◌, ◌<◌, leb, get_or};
 ghost use Rattle.std.specs.Float.{nan};
-ghost use Rattle.bay_glues.specs.Tables.{glue_on, glues_of, scaffold_glue, cell_of};
+ghost use Rattle.bay_system.specs.System.{system_of};
+ghost use Rattle.bay_glues.specs.Tables.{glue_on, glues_of, scaffold_glue, cell_of, log_of};
 
+use bay_system::System;
 use units::{BaseEnergy, StrandGlues};
 
 // Where a strand's glues stand among its five: clockwise from the north, then the bottom.
@@ -19,21 +21,18 @@ pub const WEST_GLUE_INDEX: usize = 3;
 
 pub const BOTTOM_GLUE_INDEX: usize = 4;
 
-// The glue at a place of a table, 0 behind its end.
-fn glue_at(table: &[u32], at: usize) -> u32
-    ensures { result ≡ get_or table.now at 0 }
+// What stands at a place of a table, another value behind its end.
+fn at_or<T: Copy>(table: &[T], at: usize, behind: T) -> T
+    ensures { result ≡ get_or table.now at behind }
 {
-    if at < table.len() {
-        return table[at];
-    }
-    0
+    table.get(at).copied().unwrap_or(behind)
 }
 
 // The glue of a bay: the one reader of the scaffold.
-pub fn scaffold_glue_at(scaffold: &[u32], bay: usize) -> u32
-    ensures { result ≡ scaffold_glue scaffold.now bay }
+pub fn scaffold_glue_at(system: &System<'_>, bay: usize) -> u32
+    ensures { let s = system_of system.now in result ≡ scaffold_glue s.scaffold bay }
 {
-    glue_at(scaffold, bay)
+    at_or(system.scaffold, bay, 0)
 }
 
 // A strand's glue on one of its sides.
@@ -44,42 +43,37 @@ fn glue_on(strand_glues: &[u32], strand: usize, side: usize) -> u32
     if strand_glues.len() <= strand {
         return 0;
     }
-    glue_at(strand_glues, strand * 5 + side)
+    at_or(strand_glues, strand * 5 + side, 0)
 }
 
 // The five glues of a strand, read from the flat table.
-pub fn strand_glues_of(strand_glues: &[u32], strand: usize) -> StrandGlues
-    ensures { result ≡ glues_of strand_glues.now strand }
+pub fn strand_glues_of(system: &System<'_>, strand: usize) -> StrandGlues
+    ensures { let s = system_of system.now in result ≡ glues_of s.strand_glues strand }
 {
+    let table = system.strand_glues;
     StrandGlues {
         glues: [
-            glue_on(strand_glues, strand, NORTH_GLUE_INDEX),
-            glue_on(strand_glues, strand, EAST_GLUE_INDEX),
-            glue_on(strand_glues, strand, SOUTH_GLUE_INDEX),
-            glue_on(strand_glues, strand, WEST_GLUE_INDEX),
-            glue_on(strand_glues, strand, BOTTOM_GLUE_INDEX),
+            glue_on(table, strand, NORTH_GLUE_INDEX),
+            glue_on(table, strand, EAST_GLUE_INDEX),
+            glue_on(table, strand, SOUTH_GLUE_INDEX),
+            glue_on(table, strand, WEST_GLUE_INDEX),
+            glue_on(table, strand, BOTTOM_GLUE_INDEX),
         ],
     }
 }
 
-// The number at a place of a table, a NaN behind its end.
-pub fn float_or_nan(table: &[f64], at: usize) -> f64
-    ensures { result ≡ get_or table.now at nan }
+// The log concentration of a strand.
+pub fn log_of(system: &System<'_>, strand: usize) -> f64
+    ensures { result ≡ log_of (system_of system.now) strand }
 {
-    if at < table.len() {
-        return table[at];
-    }
-    0.0 / 0.0
+    at_or(system.logs, strand, f64::NAN)
 }
 
 // Whether a row of a matrix, each `glues` long, begins within a length; the product may be too large for a usize.
 fn begins_within(length: usize, glues: usize, row: usize) -> bool
     ensures { result ≡ leb (row * glues) length }
 {
-    if row == 0 {
-        return true;
-    }
-    glues <= length / row
+    row == 0 || glues <= length / row
 }
 
 // Cell (a, b) of a matrix, a NaN behind its end.
@@ -88,17 +82,18 @@ fn matrix_cell(matrix: &[f64], glues: usize, a: u32, b: u32) -> f64
 {
     let row = a as usize;
     if begins_within(matrix.len(), glues, row) {
-        return float_or_nan(matrix, row * glues + (b as usize));
+        at_or(matrix, row * glues + b as usize, f64::NAN)
+    } else {
+        f64::NAN
     }
-    0.0 / 0.0
 }
 
 // A cell of the two matrices: row a, place b.
-pub fn cell(delta_g: &[f64], entropy: &[f64], glues: usize, a: u32, b: u32) -> BaseEnergy
-    ensures { result ≡ cell_of delta_g.now entropy.now glues a b }
+pub fn cell(system: &System<'_>, a: u32, b: u32) -> BaseEnergy
+    ensures { result ≡ cell_of (system_of system.now) a b }
 {
     BaseEnergy {
-        dg: matrix_cell(delta_g, glues, a, b),
-        ds: matrix_cell(entropy, glues, a, b),
+        dg: matrix_cell(system.delta_g, system.sizes.glues, a, b),
+        ds: matrix_cell(system.entropy, system.sizes.glues, a, b),
     }
 }
