@@ -8,14 +8,12 @@ ghost use Rattle.name_stars.specs.Stars.{base_length, base_of, star_count, is_fr
 pub fn base_length(name: &[u8]) -> usize
     ensures { (result ≡ base_length name.now) × (result ≤ length name.now) }
 {
-    let mut n = name.len();
-    while 0 < n {
+    for n in (1..=name.len()).rev() {
         if name[n - 1] != b'*' {
             return n;
         }
-        n -= 1;
     }
-    n
+    0
 }
 
 // The base, as the leading part of the lent name. Whether the name means the base or its inverse is `is_from`.

@@ -7,10 +7,11 @@ use native.Mathlib.Nat.{le_antisymm, eq-or-lt_of_le, lt_of_not-le, le_of_suc-le-
 use native.Mathlib.Numerals.{add-one}
 use native.Mathlib.Omega.{arith}
 use Rattle.units.specs.declared.refusal.Refusal.{Refusal}
-use Rattle.std.specs.Prelude.{Ok, Err}
+use borrow.Author.Tests.{lt-ltb, le-ltb}
+use Rattle.std.specs.Prelude.{Ok, Err, Some, None}
 use Rattle.units.specs.Refusals.{Verdict, passes}
 use Rattle.units.proofs.Verdicts.{first_passes, rest_passes}
-use Rattle.text_entries.specs.InOrder.{first_from, each_from}
+use Rattle.text_entries.specs.InOrder.{first_from, found, each_from}
 
 -- one thing less is left after thing j
 pub one_less : (j count : ℕ) → j < count → count - j ≡ suc (count - (j + 1))
@@ -55,12 +56,22 @@ module _ (test : ℕ → Bool) where
             none_before = λ i h l. ⊎_elim (λ p. subst (λ q. test q ≡ false) p e) (λ p. f.none_before i p l) (eq-or-lt_of_le h);
           }
 
+  pub first_within : (count : ℕ) → first_from test 0 count ≤ count
+  first_within count = omega (arith, (first 0 count).to)
+
   not_before : {j k r s : ℕ} → First test j k r → First test j k s → s ≤ r
   not_before f g = le_of_suc-le-suc (lt_of_not-le λ l. true≢false (sym (f.there (omega (arith, g.to))) ∙ g.none_before _ f.from l))
 
   -- and nothing else is the first
   pub first_only : {r : ℕ} (count : ℕ) → First test 0 count r → first_from test 0 count ≡ r
   first_only count f = le_antisymm (not_before f (first 0 count)) (not_before (first 0 count) f)
+
+-- a place below the count is found, and one that is not is none
+pub found_at : {j count place : ℕ} → place ≡ j → j < count → Some j ≡ found count place
+found_at {j} {count} e h = rw (e, lt-ltb j count h)
+
+pub found_nowhere : {count place : ℕ} → count ≤ place → None ≡ found count place
+found_nowhere {count} {place} h = rw (le-ltb place count h)
 
 -- a test that says the same of each finds the same
 pub first_same : (test other : ℕ → Bool) (j k : ℕ) → ((i : ℕ) → j ≤ i → i < j + k → test i ≡ other i) → first_from test j k ≡ first_from other j k

@@ -1,12 +1,7 @@
 -- `name_stars::base_length` meets its contract. The invariant: what is left has the answer. Assumes nothing.
-use Prim.Native.Nat.{◌≤◌}
 use mathlib.Core.Path.{◌≡◌}
-use lib.ListN.{length}
 use Rattle.name_stars.specs.Stars.{before_stars, base_length}
 use Rattle.name_stars.proofs.base_length.Given as goal
 
 abbrev pub invariant-loop-n : goal.invariant-loop-n
-invariant-loop-n l = (l.n ≤ length l.name) × (before_stars l.name l.n ≡ base_length l.name)
-
-abbrev pub decreases-loop-n : goal.decreases-loop-n
-decreases-loop-n l = l.n
+invariant-loop-n l = before_stars l.name l.n ≡ base_length l.name
