@@ -8,7 +8,6 @@ ghost use Rattle.case_fields.specs.Values.{field_count, field_front};
 ghost use Rattle.case_field_reads.specs.Reads.{list_read, is_read, number_in};
 
 use case_lists::Count;
-use case_text::Number;
 
 // Whether a list could be read, and how many items it has, 0 where it could not.
 #[derive(Clone, Copy)]
@@ -68,21 +67,21 @@ pub fn floats_field(line: &[u8], key: &[u8], room: &mut [f64]) -> ListRead
 }
 
 // Whether a number could be read.
-pub fn is_number(value: Number) -> bool
+pub fn is_number(value: Option<u64>) -> bool
     ensures { result ≡ is_read value }
 {
     match value {
-        Number::Of(_) => true,
-        Number::Unreadable => false,
+        Some(_) => true,
+        None => false,
     }
 }
 
 // The number, 0 where it could not be read.
-pub fn number_in(value: Number) -> usize
+pub fn number_in(value: Option<u64>) -> usize
     ensures { result ≡ number_in value }
 {
     match value {
-        Number::Of(n) => n as usize,
-        Number::Unreadable => 0,
+        Some(n) => n as usize,
+        None => 0,
     }
 }

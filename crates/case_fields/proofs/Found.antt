@@ -1,4 +1,5 @@
 -- Laws of a field that the line has, and of one that it lacks. Assumes nothing.
+use Rattle.std.proofs.Common.{Some}
 use Prim.Native.Nat.{ℕ, ◌^◌}
 use mathlib.Core.Bool.{Bool, true, false, cond}
 use mathlib.Core.List.{List, [], ◌∷◌}
@@ -9,7 +10,6 @@ use Rattle.text_digits.specs.Digits.{digit, all_digits, is_number, number_of, is
 use Rattle.case_text.specs.Places.{longer, parts}
 use Rattle.case_text.specs.Plain.{is_plain}
 use Rattle.case_text.specs.Fields.{words, any_field, first_field}
-use Rattle.text_digits.specs.declared.kinds.Number.{Number}
 use Rattle.case_lists.specs.Lists.{items, all, values, counted, front}
 use Rattle.case_lists.specs.Text.{signs, is_sign}
 use Rattle.case_lists.specs.declared.Count.{Count}
@@ -22,7 +22,7 @@ pub found_number : (key line value : List ℕ) → any_field key (words line) �
 unfolding number_or
 found_number key line value there e otherwise = rw (there, e)
 
-pub missing_number : (key line : List ℕ) → any_field key (words line) ≡ false → (otherwise : ℕ) → Number.Of otherwise ≡ number_or key line otherwise
+pub missing_number : (key line : List ℕ) → any_field key (words line) ≡ false → (otherwise : ℕ) → Some otherwise ≡ number_or key line otherwise
 unfolding number_or
 missing_number key line missing otherwise = rw missing
 

@@ -1,8 +1,7 @@
 -- What the contracts cite of a field's value by its key. Assumes nothing.
-use Rattle.std.specs.Prelude.{ℕ, ◌^◌, Bool, cond, List}
+use Rattle.std.specs.Prelude.{ℕ, ◌^◌, Bool, cond, List, Option, Some}
 use Rattle.text_digits.specs.Digits.{number_of}
 use Rattle.case_text.specs.Fields.{words, any_field, first_field}
-use Rattle.text_digits.specs.declared.kinds.Number.{Number}
 use Rattle.case_lists.specs.Lists.{values, counted, front}
 use Rattle.case_lists.specs.declared.Count.{Count}
 
@@ -19,5 +18,5 @@ unfoldable pub field_front : {A : Type 0} → (List ℕ → Bool) → (List ℕ 
 field_front ok value cut key line old = cond (any_field key (words line)) (front (values ok value (cut (first_field key (words line)))) old) old
 
 -- the number of the field with that key, or another where the line has no such field
-unfoldable pub number_or : (key line : List ℕ) → (otherwise : ℕ) → Number
-number_or key line otherwise = cond (any_field key (words line)) (number_of (2 ^ 64) (first_field key (words line))) (Number.Of otherwise)
+unfoldable pub number_or : (key line : List ℕ) → (otherwise : ℕ) → Option ℕ
+number_or key line otherwise = cond (any_field key (words line)) (number_of (2 ^ 64) (first_field key (words line))) (Some otherwise)

@@ -9,7 +9,7 @@ ghost use Rattle.case_lists.specs.Text.{signs, is_sign, byte_of};
 ghost use Rattle.case_fields.specs.Values.{field_or, field_count, field_front, number_or};
 
 use case_lists::{Count, bytes_into, floats_into, numbers_into, small_numbers_into, text_into};
-use case_text::{FloatValue, Number, field, float, has_field, number};
+use case_text::{field, float, has_field, number};
 
 // The value of a field, or `missing` where the line has none. Neither a text nor an item of a list
 // is read from a `%` alone, so that a missing field is unreadable where `missing` is one.
@@ -63,25 +63,25 @@ pub fn floats_field(line: &[u8], key: &[u8], room: &mut [f64]) -> Count
 }
 
 // The number of a field. A missing field has no digits, so it is unreadable.
-pub fn number_field(line: &[u8], key: &[u8]) -> Number
+pub fn number_field(line: &[u8], key: &[u8]) -> Option<u64>
     ensures { result ≡ number_of (2 ^ 64) (first_field key.now (words line.now)) }
 {
     number(field(line, key))
 }
 
 // The float of a field, likewise.
-pub fn float_field(line: &[u8], key: &[u8]) -> FloatValue
+pub fn float_field(line: &[u8], key: &[u8]) -> Option<f64>
     ensures { result ≡ float_of (first_field key.now (words line.now)) }
 {
     float(field(line, key))
 }
 
 // The number of a field, or `otherwise` where it is missing.
-pub fn number_or(line: &[u8], key: &[u8], otherwise: usize) -> Number
+pub fn number_or(line: &[u8], key: &[u8], otherwise: usize) -> Option<u64>
     ensures { result ≡ number_or key.now line.now otherwise }
 {
     if has_field(line, key) {
         return number(field(line, key));
     }
-    Number::Of(otherwise as u64)
+    Some(otherwise as u64)
 }

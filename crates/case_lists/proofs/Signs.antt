@@ -1,4 +1,5 @@
 -- Laws of a text's signs: where the first one ends, and what a sign is read as. Assumes nothing.
+use Rattle.std.proofs.Common.{Some, None}
 use Prim.Native.Nat.{ℕ, suc, ◌+◌, ◌-◌, ◌≤◌, ◌<◌}
 use mathlib.Core.Bool.{Bool, true, false, cond, not, ◌&&◌}
 use mathlib.Core.List.{List, [], ◌∷◌}
@@ -11,7 +12,6 @@ use lib.Seq.{drop-cons, drop-drop, take-length, drop-length}
 use Rattle.text_digits.specs.Digits.{all_digits, worth, whole_of}
 use Rattle.case_text.specs.Plain.{is_plain}
 use Rattle.case_lists.specs.Text.{signs, is_sign, byte_of, plain_of, hidden_of, sign_of, SignEnds}
-use Rattle.text_digits.specs.declared.kinds.Number.{Number}
 use Rattle.text_digits.proofs.Worth.{and_left, and_right, worth_bound, read_of, read_none, whole_16}
 
 -- a sign of k bytes at the front of the text from a place on
@@ -70,7 +70,7 @@ sign_one [] e = absurd (omega arith)
 sign_one (x ∷ []) e = refl
 sign_one (x ∷ y ∷ more) e = absurd (omega arith)
 
-pub sign_other : (part : List ℕ) → (length part ≡ 1 → ⊥) → (length part ≡ 3 → ⊥) → Number.Unreadable ≡ sign_of part
+pub sign_other : (part : List ℕ) → (length part ≡ 1 → ⊥) → (length part ≡ 3 → ⊥) → None ≡ sign_of part
 unfolding sign_of is_sign
 sign_other [] n m = refl
 sign_other (x ∷ []) n m = absurd (n refl)
@@ -78,11 +78,11 @@ sign_other (x ∷ y ∷ []) n m = refl
 sign_other (x ∷ y ∷ z ∷ []) n m = absurd (m refl)
 sign_other (x ∷ y ∷ z ∷ a ∷ more) n m = refl
 
-hidden_is : (t : Bool) (b : ℕ) → hidden_of (cond t (Number.Of b) Number.Unreadable) ≡ cond (t && not (is_plain b)) (Number.Of b) Number.Unreadable
+hidden_is : (t : Bool) (b : ℕ) → hidden_of (cond t (Some b) None) ≡ cond (t && not (is_plain b)) (Some b) None
 unfolding hidden_of
 hidden_is true b = go (is_plain b)
   where
-    go : (p : Bool) → cond p Number.Unreadable (Number.Of b) ≡ cond (not p) (Number.Of b) Number.Unreadable
+    go : (p : Bool) → cond p None (Some b) ≡ cond (not p) (Some b) None
     go true = refl
     go false = refl
 hidden_is false b = refl
@@ -95,11 +95,11 @@ sign_three (x ∷ y ∷ []) e = absurd (omega arith)
 sign_three (x ∷ y ∷ z ∷ []) e = ap hidden_of (whole_16 (y ∷ z ∷ []) (lit≤ tt)) ∙ hidden_is (all_digits 16 (y ∷ z ∷ [])) (worth 16 0 (y ∷ z ∷ []))
 sign_three (x ∷ y ∷ z ∷ a ∷ more) e = absurd (omega arith)
 
-pub sign_of_lem : (part : List ℕ) (b : ℕ) → sign_of part ≡ Number.Of b → (is_sign part ≡ true) × (byte_of part ≡ b)
+pub sign_of_lem : (part : List ℕ) (b : ℕ) → sign_of part ≡ Some b → (is_sign part ≡ true) × (byte_of part ≡ b)
 unfolding sign_of
 sign_of_lem part b e = read_of (is_sign part) (byte_of part) b e
 
-pub sign_not : (part : List ℕ) → sign_of part ≡ Number.Unreadable → is_sign part ≡ false
+pub sign_not : (part : List ℕ) → sign_of part ≡ None → is_sign part ≡ false
 unfolding sign_of
 sign_not part e = read_none (is_sign part) (byte_of part) e
 

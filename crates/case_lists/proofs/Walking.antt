@@ -1,4 +1,5 @@
 -- Laws of a walk over a list's items that fills a slice: one for every kind of item and of slice. Assumes nothing.
+use Rattle.std.proofs.Common.{Option, Some, None}
 use Prim.Native.Nat.{ℕ, ◌+◌, ◌-◌, ◌<◌}
 use mathlib.Core.Bool.{Bool, true, false, cond, true≢false}
 use mathlib.Core.List.{List}
@@ -9,8 +10,6 @@ use lib.Dec.{eqb, ltb, leb}
 use lib.ListN.{length, take, drop, set, length-set}
 use Rattle.text_digits.specs.Digits.{worth, is_number, number_of, bits_of}
 use Rattle.text_digits.proofs.Worth.{number_small}
-use Rattle.text_digits.specs.declared.kinds.Number.{Number}
-use Rattle.text_digits.specs.declared.kinds.Number.TheVariants.{Of, Unreadable}
 use Rattle.case_text.specs.Places.{place_of}
 use Rattle.case_text.proofs.Cuts.{onward_at}
 use Rattle.case_lists.specs.Lists.{items, values, counted, front}
@@ -21,21 +20,21 @@ use Rattle.case_lists.proofs.Filling.{Listing, no_item_counts, no_item_fills, li
 
 -- ---- the item at a place
 
-item_is : (bits : Bool) (most : ℕ) (item : List ℕ) → item_of bits most item ≡ cond (is_item bits most item) (Number.Of (item_worth bits item)) Number.Unreadable
+item_is : (bits : Bool) (most : ℕ) (item : List ℕ) → item_of bits most item ≡ cond (is_item bits most item) (Some (item_worth bits item)) None
 unfolding number_of bits_of
 item_is true most item = refl
 item_is false most item = refl
 
 pub read_is : (bits : Bool) (most : ℕ) (text : List ℕ) (room at n end : ℕ) → end ≡ place_of 44 text at
-    → {read : Number} → read ≡ item_of bits most (take (end - at) (drop at text)) → reached_by read room n end ≡ read_at (is_item bits most) (item_worth bits) text room at n
+    → {read : Option ℕ} → read ≡ item_of bits most (take (end - at) (drop at text)) → reached_by read room n end ≡ read_at (is_item bits most) (item_worth bits) text room at n
 unfolding read_at
 read_is bits most text room at n end p e = rw (e, p, item_is)
 
 -- ---- how many items are before a walk
 
-reached_n : (r : Number) (room n end : ℕ) → (reached_by r room n end).n ≡ n
-reached_n (Of x) room n end = refl
-reached_n Unreadable room n end = refl
+reached_n : (r : Option ℕ) (room n end : ℕ) → (reached_by r room n end).n ≡ n
+reached_n (Some x) room n end = refl
+reached_n None room n end = refl
 
 module _ (ok : List ℕ → Bool) (worth : List ℕ → ℕ) (text : List ℕ) (room : ℕ) where
   read_n : (at n : ℕ) → (read_at ok worth text room at n).n ≡ n
@@ -43,7 +42,7 @@ module _ (ok : List ℕ → Bool) (worth : List ℕ → ℕ) (text : List ℕ) (
   read_n at n =
       let end = place_of 44 text at in
       let item = take (end - at) (drop at text) in
-      reached_n (cond (ok item) (Number.Of (worth item)) Number.Unreadable) room n end
+      reached_n (cond (ok item) (Some (worth item)) None) room n end
 
   next_n : (w : Walk) → (next_of ok worth text room w).n ≡ w.n + 1
   unfolding next_of
@@ -92,7 +91,7 @@ module _ {A : Type 0} (ok : List ℕ → Bool) (worth : List ℕ → ℕ) (store
       read false h k =
           record { long = l.fill.long; going = λ g. absurd (true≢false (sym g)); ended = λ g. listing_is_full ok (stored worth store) text old at out n l (ltb-false n (length old) h) }
 
-      go : (t : Bool) → ok item ≡ t → Walking out (reached_by (cond t (Number.Of (worth item)) Number.Unreadable) (length old) n (place_of 44 text at))
+      go : (t : Bool) → ok item ≡ t → Walking out (reached_by (cond t (Some (worth item)) None) (length old) n (place_of 44 text at))
       go true k = read (ltb n (length old)) refl k
       go false k =
           record { long = l.fill.long; going = λ g. absurd (true≢false (sym g)); ended = λ g. listing_stops ok (stored worth store) text old at out n l (place_of 44 text at) refl k }

@@ -1,8 +1,7 @@
 -- What the contracts cite of text in a value: the signs that it is made of, and the byte of each. Assumes nothing.
-use Rattle.std.specs.Prelude.{ℕ, ◌-◌, ◌≤◌, ◌<◌, Bool, false, cond, not, ◌&&◌, List, [], ◌∷◌, ◌≡◌, eqb, length, take, drop}
+use Rattle.std.specs.Prelude.{ℕ, ◌-◌, ◌≤◌, ◌<◌, Bool, false, cond, not, ◌&&◌, List, [], ◌∷◌, ◌≡◌, eqb, length, take, drop, Option, Some, None}
 use Rattle.text_digits.specs.Digits.{all_digits, worth}
 use Rattle.case_text.specs.Plain.{is_plain}
-use Rattle.text_digits.specs.declared.kinds.Number.{Number}
 
 -- the signs that a text is made of: `%` with the two bytes after it, as far as there are two, and any other byte by itself
 unfoldable pub signs : List ℕ → List (List ℕ)
@@ -20,13 +19,13 @@ is_sign (x ∷ y ∷ z ∷ []) = all_digits 16 (y ∷ z ∷ []) && not (is_plain
 is_sign (x ∷ y ∷ z ∷ a ∷ more) = false
 
 -- what a byte by itself is read as
-unfoldable pub plain_of : ℕ → Number
-plain_of b = cond (is_plain b) (Number.Of b) Number.Unreadable
+unfoldable pub plain_of : ℕ → Option ℕ
+plain_of b = cond (is_plain b) (Some b) None
 
 -- what a byte by its digits is read as
-unfoldable pub hidden_of : Number → Number
-hidden_of (Number.Of b) = cond (is_plain b) Number.Unreadable (Number.Of b)
-hidden_of Number.Unreadable = Number.Unreadable
+unfoldable pub hidden_of : Option ℕ → Option ℕ
+hidden_of (Some b) = cond (is_plain b) None (Some b)
+hidden_of None = None
 
 -- the byte that a sign stands for
 unfoldable pub byte_of : List ℕ → ℕ
@@ -35,8 +34,8 @@ byte_of (x ∷ []) = x
 byte_of (x ∷ y ∷ more) = worth 16 0 (y ∷ more)
 
 -- what a sign is read as
-unfoldable pub sign_of : List ℕ → Number
-sign_of part = cond (is_sign part) (Number.Of (byte_of part)) Number.Unreadable
+unfoldable pub sign_of : List ℕ → Option ℕ
+sign_of part = cond (is_sign part) (Some (byte_of part)) None
 
 -- the sign at a place of a text ends at r: the text's signs from that place on are it and those from r on
 pub record SignEnds (text : List ℕ) (at r : ℕ) : Type 0 where

@@ -1,8 +1,6 @@
 -- What the contracts cite of a walk over a list's items. Assumes nothing.
-use Rattle.std.specs.Prelude.{ℕ, ◌+◌, ◌-◌, Bool, true, false, cond, List, eqb, ltb, leb, length, take, drop}
+use Rattle.std.specs.Prelude.{ℕ, ◌+◌, ◌-◌, Bool, true, false, cond, List, eqb, ltb, leb, length, take, drop, Option, Some, None}
 use Rattle.text_digits.specs.Digits.{worth, is_number, number_of, is_float, bits_of}
-use Rattle.text_digits.specs.declared.kinds.Number.{Number}
-use Rattle.text_digits.specs.declared.kinds.Number.TheVariants.{Of, Unreadable}
 use Rattle.case_text.specs.Places.{place_of}
 use Rattle.case_lists.specs.declared.Count.{Count}
 use Rattle.case_lists.specs.declared.walk.Walk.{Walk}
@@ -18,14 +16,14 @@ item_worth true = worth 16 0
 item_worth false = worth 10 0
 
 -- what an item is read as
-abbrev pub item_of : Bool → ℕ → List ℕ → Number
+abbrev pub item_of : Bool → ℕ → List ℕ → Option ℕ
 item_of true most = bits_of
 item_of false most = number_of (most + 1)
 
 -- the walk at an item that is read so, behind n others and up to a place: it goes on where the item can be read and has room
-abbrev pub reached_by : Number → (room n end : ℕ) → Walk
-reached_by (Of x) room n end = record { going = ltb n room; whole = false; n = n; end = end; x = x }
-reached_by Unreadable room n end = record { going = false; whole = false; n = n; end = end; x = 0 }
+abbrev pub reached_by : Option ℕ → (room n end : ℕ) → Walk
+reached_by (Some x) room n end = record { going = ltb n room; whole = false; n = n; end = end; x = x }
+reached_by None room n end = record { going = false; whole = false; n = n; end = end; x = 0 }
 
 -- the walk behind the last of n items
 abbrev pub behind : ℕ → Walk
@@ -37,7 +35,7 @@ module _ (ok : List ℕ → Bool) (value : List ℕ → ℕ) (text : List ℕ) (
   read_at at n =
       let end = place_of 44 text at in
       let item = take (end - at) (drop at text) in
-      reached_by (cond (ok item) (Number.Of (value item)) Number.Unreadable) room n end
+      reached_by (cond (ok item) (Some (value item)) None) room n end
 
   -- the walk at the first item; at the end where there is none
   unfoldable pub first_of : Walk
@@ -49,4 +47,4 @@ module _ (ok : List ℕ → Bool) (value : List ℕ → ℕ) (text : List ℕ) (
 
 -- the answer of a walk that has ended
 abbrev pub count_of : Walk → Count
-count_of w = cond w.whole (Count.Of w.n) Count.Unreadable
+count_of w = cond w.whole (Count.Some w.n) Count.None

@@ -4,7 +4,7 @@ ghost use Rattle.case_lists.specs.Lists.{counted, values, front};
 ghost use Rattle.case_lists.specs.Text.{signs, is_sign, byte_of, plain_of, hidden_of, sign_of, SignEnds};
 
 use crate::Count;
-use case_text::{Number, is_plain, whole};
+use case_text::{is_plain, whole};
 
 // Writes the bytes of a text to the front of `out`, and answers how many they are. Where the text
 // is unreadable, or longer than `out`, the bytes before the fault are written. Nothing else changes.
@@ -20,10 +20,10 @@ pub fn text_into(value: &[u8], out: &mut [u8]) -> Count
             return Count::Unreadable;
         }
         match sign(&value[at..end]) {
-            Number::Of(b) => {
+            Some(b) => {
                 out[n] = b as u8;
             }
-            Number::Unreadable => {
+            None => {
                 return Count::Unreadable;
             }
         }
@@ -48,42 +48,42 @@ fn sign_end(value: &[u8], at: usize) -> usize
 }
 
 // The byte that a sign stands for.
-fn sign(part: &[u8]) -> Number
+fn sign(part: &[u8]) -> Option<u64>
     ensures { result ≡ sign_of part.now }
 {
     if part.len() == 1 {
         return plain(part[0]);
     }
     if part.len() != 3 {
-        return Number::Unreadable;
+        return None;
     }
     hidden(whole(&part[1..], 16))
 }
 
 // A byte by itself stands for itself, where it may.
-fn plain(b: u8) -> Number
+fn plain(b: u8) -> Option<u64>
     ensures { result ≡ plain_of b }
 {
     let n = b as u64;
     if is_plain(n) {
-        Number::Of(n)
+        Some(n)
     } else {
-        Number::Unreadable
+        None
     }
 }
 
 // A byte by its digits is one that cannot stand for itself, so that each text is written in one way.
-fn hidden(byte: Number) -> Number
+fn hidden(byte: Option<u64>) -> Option<u64>
     ensures { result ≡ hidden_of byte }
 {
     match byte {
-        Number::Of(n) => {
+        Some(n) => {
             if is_plain(n) {
-                Number::Unreadable
+                None
             } else {
-                Number::Of(n)
+                Some(n)
             }
         }
-        Number::Unreadable => Number::Unreadable,
+        None => None,
     }
 }

@@ -5,7 +5,7 @@ ghost use Rattle.text_digits.specs.Digits.{number_of};
 ghost use Rattle.case_lists.specs.Walks.{is_item, item_worth, item_of, reached_by, behind, read_at, first_of, next_of, count_of};
 
 use crate::Count;
-use case_text::{Number, item_end, number};
+use case_text::{item_end, number};
 
 // Where a walk has come to: an item that can be read and has room (`going`), what it is worth, how
 // many are before it, and where it ends. Else the walk has ended, with the `whole` list or before it.
@@ -74,18 +74,18 @@ fn read_at(value: &[u8], bits: bool, most: u64, room: usize, at: usize, n: usize
 }
 
 // The walk at an item, by what the item is read as.
-fn reached(read: Number, room: usize, n: usize, end: usize) -> Walk
+fn reached(read: Option<u64>, room: usize, n: usize, end: usize) -> Walk
     ensures { result ≡ reached_by read room n end }
 {
     match read {
-        Number::Of(x) => Walk {
+        Some(x) => Walk {
             going: n < room,
             whole: false,
             n,
             end,
             x,
         },
-        Number::Unreadable => Walk {
+        None => Walk {
             going: false,
             whole: false,
             n,
@@ -96,7 +96,7 @@ fn reached(read: Number, room: usize, n: usize, end: usize) -> Walk
 }
 
 // What an item is read as.
-fn item(part: &[u8], bits: bool, most: u64) -> Number
+fn item(part: &[u8], bits: bool, most: u64) -> Option<u64>
     ensures { result ≡ item_of bits most part.now }
 {
     if bits {
@@ -106,17 +106,17 @@ fn item(part: &[u8], bits: bool, most: u64) -> Number
 }
 
 // A number that is `most` at the most.
-fn number_to(value: &[u8], most: u64) -> Number
+fn number_to(value: &[u8], most: u64) -> Option<u64>
     ensures { result ≡ number_of (most + 1) value.now }
 {
     match number(value) {
-        Number::Of(x) => {
+        Some(x) => {
             if x <= most {
-                Number::Of(x)
+                Some(x)
             } else {
-                Number::Unreadable
+                None
             }
         }
-        Number::Unreadable => Number::Unreadable,
+        None => None,
     }
 }

@@ -5,7 +5,7 @@ ghost use Rattle.std.specs.Prelude.{◌≤◌, length};
 
 use case_field_reads::{ListRead, at_most, floats_field, is_number, number_in, numbers_field};
 use case_fields::number_or;
-use case_text::{Number, front};
+use case_text::front;
 
 // Whether the cells and the lengths could be read, and how long the lent matrices are.
 #[derive(Clone, Copy)]
@@ -73,7 +73,7 @@ fn paired(cells: ListRead, energies: ListRead) -> bool {
 }
 
 // Whether a length is a number and no longer than the longest matrix.
-fn is_length(length: Number) -> bool {
+fn is_length(length: Option<u64>) -> bool {
     is_number(length) && number_in(length) <= 66049
 }
 

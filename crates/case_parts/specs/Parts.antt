@@ -1,6 +1,5 @@
 -- What the contracts cite of fields that are read into parts of a table, and of how much was read. Assumes nothing.
-use Rattle.std.specs.Prelude.{ℕ, ◌-◌, min, Bool, cond, List, ◌++◌, ltb, length, take, drop}
-use Rattle.text_digits.specs.declared.kinds.Number.{Number}
+use Rattle.std.specs.Prelude.{ℕ, ◌-◌, min, Bool, cond, List, ◌++◌, ltb, length, take, drop, Option}
 use Rattle.case_lists.specs.declared.Count.{Count}
 use Rattle.case_lists.specs.declared.Count.TheVariants.{Of, Unreadable}
 use Rattle.case_fields.specs.Values.{field_count, field_front}
@@ -20,7 +19,7 @@ abbrev pub was_read : ℕ → Bool
 was_read count = ltb count unread
 
 -- how long a case says that a lent table is, the right length where it does not say, and `unread` where that cannot be read
-abbrev pub length_for : Number → ℕ
+abbrev pub length_for : Option ℕ → ℕ
 length_for length = cond (is_read length) (number_in length) unread
 
 -- the places that a part of a table goes from and to: as asked, as far as the table goes

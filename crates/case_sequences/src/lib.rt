@@ -10,7 +10,7 @@ use case_answer_lines::{put_floats, put_signed, put_text, refused, unreadable};
 use case_fields::{float_field, text_field};
 use case_lists::Count;
 use case_replies::{Reply, put_energy};
-use case_text::{FloatValue, call_name, front, same};
+use case_text::{call_name, front, same};
 use units::{BaseEnergyAnswer, HundredthsAnswer};
 use utils::{sequence_pair_str_dg_ds, string_dna_delta_g, string_dna_dg_ds, string_dna_hundredths};
 
@@ -46,7 +46,7 @@ fn put_hundredths(out: &mut [u8], answer: HundredthsAnswer) -> usize
 fn answer_at_kelvin(line: &[u8], dna: &[u8], out: &mut [u8]) -> usize
     ensures { result ≤ length out.old }
 {
-    let FloatValue::Of(kelvin) = float_field(line, b"kelvin") else {
+    let Some(kelvin) = float_field(line, b"kelvin") else {
         return unreadable(out);
     };
     put_energy(out, string_dna_delta_g(dna, kelvin))

@@ -2,7 +2,6 @@
 use bay_system::Sizes;
 use case_field_reads::{is_number, number_in};
 use case_fields::{float_field, number_field};
-use case_text::{FloatValue, Number};
 
 // Whether all sizes could be read, and the sizes.
 #[derive(Clone, Copy)]
@@ -12,23 +11,23 @@ pub(crate) struct SizesRead {
 }
 
 // Whether each number could be read.
-fn all_numbers(rows: Number, cols: Number, strands: Number, glues: Number) -> bool {
+fn all_numbers(rows: Option<u64>, cols: Option<u64>, strands: Option<u64>, glues: Option<u64>) -> bool {
     is_number(rows) && is_number(cols) && is_number(strands) && is_number(glues)
 }
 
 // Whether a float could be read.
-fn is_float(value: FloatValue) -> bool {
+fn is_float(value: Option<f64>) -> bool {
     match value {
-        FloatValue::Of(_) => true,
-        FloatValue::Unreadable => false,
+        Some(_) => true,
+        None => false,
     }
 }
 
 // The float, 0.0 where it could not be read.
-fn float_in(value: FloatValue) -> f64 {
+fn float_in(value: Option<f64>) -> f64 {
     match value {
-        FloatValue::Of(x) => x,
-        FloatValue::Unreadable => 0.0,
+        Some(x) => x,
+        None => 0.0,
     }
 }
 

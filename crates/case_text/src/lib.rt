@@ -12,5 +12,5 @@ mod plain;
 pub use fields::{call_name, field, has_field, is_case, same};
 pub use places::{item_end, line_end};
 pub use plain::is_plain;
-pub use text_digits::{FloatValue, Number, float, number, whole};
+pub use text_digits::{float, number, whole};
 pub use text_fronts::front;

@@ -1,4 +1,5 @@
 -- Laws of a word that is a number: what each test that the code makes says of it. Assumes nothing.
+use Rattle.std.proofs.Common.{Some, None}
 use Prim.Native.Nat.{ℕ, ◌^◌, ◌≤◌, ◌<◌}
 use mathlib.Core.Bool.{Bool, true, false, ◌&&◌, ◌||◌}
 use mathlib.Core.List.{List, [], ◌∷◌}
@@ -8,7 +9,6 @@ use borrow.Author.Tests.{le-leb, lt-ltb, le-ltb, eq-eqb, ne_eqb, ltb-false}
 use lib.Dec.{eqb, ltb}
 use lib.ListN.{length, get_or}
 use Rattle.text_digits.specs.Digits.{digit, all_digits, worth, whole_of}
-use Rattle.text_digits.specs.declared.kinds.Number.{Number}
 use Rattle.units.proofs.Tests.{and_false, and_left}
 use Rattle.text_digits.proofs.Worth.{read_of, read_none}
 use Rattle.sheet_number_lists.specs.NumberLists.{is_plain_number, value_of}
@@ -47,13 +47,13 @@ module _ (w : List ℕ) (some : length w ≡ 0 → ⊥) (other : get_or w 0 0 �
   unfolding is_plain_number
   shape = rw (le-leb 1 (length w) (omega arith), ne_eqb (get_or w 0 0) 48 other, or_true)
 
-  pub plain_read : (n : ℕ) → whole_of 10 w ≡ Number.Of n → small_number n ≡ plain_number w
+  pub plain_read : (n : ℕ) → whole_of 10 w ≡ Some n → small_number n ≡ plain_number w
   unfolding whole_of value_of
   plain_read n e =
       let r = read_of (all_digits 10 w && ltb (worth 10 0 w) (2 ^ 64)) (worth 10 0 w) n e in
       rw (shape, and_left (all_digits 10 w) (ltb (worth 10 0 w) (2 ^ 64)) r.0, r.1)
 
-  pub plain_not : whole_of 10 w ≡ Number.Unreadable → none ≡ plain_number w
+  pub plain_not : whole_of 10 w ≡ None → none ≡ plain_number w
   unfolding whole_of value_of
   plain_not e = go (all_digits 10 w) refl (read_none (all_digits 10 w && ltb (worth 10 0 w) (2 ^ 64)) (worth 10 0 w) e)
     where

@@ -2,7 +2,7 @@
 ghost use Rattle.std.specs.Prelude.{◌≡◌, ◌+◌, ◌-◌, ◌≤◌, length, take, drop};
 ghost use Rattle.sheet_number_lists.specs.Counts.{word_length, plain_number, small_number};
 
-use text_digits::{Number, whole};
+use text_digits::whole;
 
 // Whether a word is a number, and its value, 0 where it is none.
 #[derive(Clone, Copy)]
@@ -44,8 +44,8 @@ pub fn plain_number(word: &[u8]) -> PlainNumber
         };
     }
     match whole(word, 10) {
-        Number::Of(n) => small_number(n),
-        Number::Unreadable => PlainNumber {
+        Some(n) => small_number(n),
+        None => PlainNumber {
             sound: false,
             value: 0,
         },

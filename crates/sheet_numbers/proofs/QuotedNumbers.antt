@@ -1,4 +1,5 @@
 -- A quote is no part of a number: what a field's content is read as is read off its bytes as they stand. Assumes nothing.
+use Rattle.std.proofs.Common.{None}
 use Prim.Native.Nat.{ℕ, suc, ◌-◌, ◌^◌}
 use mathlib.Core.Bool.{Bool, true, false, cond, ◌&&◌, ◌||◌, true≢false}
 use mathlib.Core.List.{List, [], ◌∷◌, ◌++◌}
@@ -9,7 +10,6 @@ use lib.Dec.{eqb, leb, ltb}
 use lib.ListN.{length, get_or, take, drop}
 use Rattle.units.specs.Decimals.{plus}
 use Rattle.text_digits.specs.Digits.{digit, all_digits, worth}
-use Rattle.text_digits.specs.declared.kinds.FloatValue.{FloatValue}
 use Rattle.units.proofs.Tests.{and_left, and_right}
 use Rattle.text_decimals.specs.Decimals.{whole_length, places, whole_part, is_formed, are_few, is_unsigned, signed_of, decimal_of, is_minus_infinity, logarithm_of}
 use Rattle.sheet_number_lists.specs.NumberLists.{is_plain_number, value_of}
@@ -61,7 +61,7 @@ unsigned_no_quote t e =
     let few = and_right (leb (length (places t)) 22) (are_few 0 all) (and_right (is_formed t) (leb (length (places t)) 22 && are_few 0 all) e) in
     parts_no_quote t (and_left (all_digits 10 all) (ltb (worth 10 0 all) (10 ^ 15)) few)
 
-signed_quote : (negative : Bool) (t : List ℕ) → has_quote t ≡ true → signed_of negative t ≡ FloatValue.Unreadable
+signed_quote : (negative : Bool) (t : List ℕ) → has_quote t ≡ true → signed_of negative t ≡ None
 unfolding signed_of
 signed_quote negative t e = rw (not_with_quote is_unsigned unsigned_no_quote t e)
 
@@ -70,11 +70,11 @@ unfolding has_quote
 after_minus [] k e = e
 after_minus (b ∷ t) k e = rw (eqb-true b 45 k) at e
 
-decimal_quote : (t : List ℕ) → has_quote t ≡ true → decimal_of t ≡ FloatValue.Unreadable
+decimal_quote : (t : List ℕ) → has_quote t ≡ true → decimal_of t ≡ None
 unfolding decimal_of
 decimal_quote t e = go (eqb (get_or t 0 0) 45) refl
   where
-    go : (p : Bool) → eqb (get_or t 0 0) 45 ≡ p → cond p (signed_of true (drop 1 t)) (signed_of false t) ≡ FloatValue.Unreadable
+    go : (p : Bool) → eqb (get_or t 0 0) 45 ≡ p → cond p (signed_of true (drop 1 t)) (signed_of false t) ≡ None
     go true k = signed_quote true (drop 1 t) (after_minus t k e)
     go false k = signed_quote false t e
 
@@ -95,7 +95,7 @@ infinity_no_quote (a ∷ b ∷ c ∷ d ∷ x ∷ t) e =
     let long : eqb (length (a ∷ b ∷ c ∷ d ∷ x ∷ t)) 4 ≡ false = ne_eqb (length (a ∷ b ∷ c ∷ d ∷ x ∷ t)) 4 (λ (q : length (a ∷ b ∷ c ∷ d ∷ x ∷ t) ≡ 4). omega arith) in
     absurd (true≢false (sym e ∙ rw long refl))
 
-logarithm_quote : (t : List ℕ) → has_quote t ≡ true → logarithm_of t ≡ FloatValue.Unreadable
+logarithm_quote : (t : List ℕ) → has_quote t ≡ true → logarithm_of t ≡ None
 unfolding logarithm_of
 logarithm_quote t e = rw (not_with_quote is_minus_infinity infinity_no_quote t e) (decimal_quote t e)
 
@@ -110,7 +110,7 @@ quote_unread : (kind : Kind) (t : List ℕ) → has_quote t ≡ true → read_as
 unfolding read_as
 quote_unread kind t e = rw (quote_bytes t e, logarithm_quote t e, decimal_quote t e) (go kind.blanks kind.logarithms)
   where
-    go : (blanks logarithms : Bool) → ◌≡◌ {A = Reading} (cond (blanks && false) (record { sound = true; value = plus 0 1 }) (reading_of (cond logarithms FloatValue.Unreadable FloatValue.Unreadable))) (record { sound = false; value = plus 0 1 })
+    go : (blanks logarithms : Bool) → ◌≡◌ {A = Reading} (cond (blanks && false) (record { sound = true; value = plus 0 1 }) (reading_of (cond logarithms None None))) (record { sound = false; value = plus 0 1 })
     go true true = refl
     go true false = refl
     go false true = refl

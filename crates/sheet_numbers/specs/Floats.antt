@@ -1,7 +1,6 @@
 -- Columns of decimals and of logarithms: what a content is read as. Assumes nothing.
-use Rattle.std.specs.Prelude.{ℕ, Bool, true, false, cond, ◌&&◌, List, eqb, Float, length}
+use Rattle.std.specs.Prelude.{ℕ, Bool, true, false, cond, ◌&&◌, List, eqb, Float, length, Option, Some, None}
 use Rattle.units.specs.Decimals.{plus}
-use Rattle.text_digits.specs.declared.kinds.FloatValue.{FloatValue}
 use Rattle.text_decimals.specs.Decimals.{decimal_of, logarithm_of}
 use Rattle.sheet_numbers.specs.declared.float_column.Kind.{Kind}
 use Rattle.sheet_numbers.specs.declared.float_column.Reading.{Reading}
@@ -14,9 +13,9 @@ abbrev pub logarithms : Kind
 logarithms = record { logarithms = true; blanks = false }
 
 -- whether a value could be read, and the value, 0.0 where it could not
-abbrev pub reading_of : FloatValue → Reading
-reading_of (FloatValue.Of x) = record { sound = true; value = x }
-reading_of FloatValue.Unreadable = record { sound = false; value = plus 0 1 }
+abbrev pub reading_of : Option Float → Reading
+reading_of (Some x) = record { sound = true; value = x }
+reading_of None = record { sound = false; value = plus 0 1 }
 
 -- what a content of a column is read as: a blank is 0.0 where blanks may stand
 unfoldable pub read_as : Kind → List ℕ → Reading

@@ -9,7 +9,6 @@ ghost use Rattle.sheet_numbers.specs.Floats.{decimals, logarithms, reading_of, r
 use crate::faults::first_fault;
 use sheet_fields::field_at;
 use sheet_records::place_after;
-use text_digits::FloatValue;
 
 // How a column is read: as logarithms, of which `-inf` is one, or as decimals; and whether a field may be blank.
 #[derive(Clone, Copy)]
@@ -144,15 +143,15 @@ fn is_blank(blanks: bool, bytes: usize) -> bool
 }
 
 // A value with a flag.
-fn reading_of(value: FloatValue) -> Reading
+fn reading_of(value: Option<f64>) -> Reading
     ensures { result ≡ reading_of value }
 {
     match value {
-        FloatValue::Of(x) => Reading {
+        Some(x) => Reading {
             sound: true,
             value: x,
         },
-        FloatValue::Unreadable => Reading {
+        None => Reading {
             sound: false,
             value: 0.0,
         },

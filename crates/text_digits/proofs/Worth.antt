@@ -1,9 +1,9 @@
 -- Laws of digits and what they are worth: how a reading from the front goes on, and when it passes 2^64. Assumes nothing.
-use Prim.Native.Nat.{ℕ, suc, ◌+◌, ◌-◌, ◌*◌, ◌/◌, ◌^◌, ◌≤◌, ◌<◌}
+use Prim.Native.Nat.{ℕ, suc, ◌+◌, ◌*◌, ◌^◌, ◌≤◌, ◌<◌}
 use mathlib.Core.Bool.{Bool, true, false, cond, ◌&&◌}
 use mathlib.Core.List.{List, [], ◌∷◌}
 use mathlib.Core.Path.{◌≡◌, refl, sym, ◌∙◌}
-use native.Mathlib.Nat.{le_refl, le-mul_of_pos_right, mul-le-mul_right, le-div_iff_mul-le, div-lt_iff_lt-mul, pow-zero, pow-succ', pow-le-pow_right, add-mul, one-mul, mul_assoc}
+use native.Mathlib.Nat.{le_refl, le-mul_of_pos_right, mul-le-mul_right, pow-zero, pow-succ', pow-le-pow_right, add-mul, one-mul, mul_assoc}
 use native.Mathlib.Numerals.{add-one}
 use native.Mathlib.Omega.{arith}
 use borrow.Author.Tests.{lt-ltb, le-ltb, le-leb, lt-leb, eq-eqb, ne_eqb, ltb-true, ltb-false}
@@ -11,19 +11,9 @@ use lib.Dec.{ltb, leb, lit<}
 use lib.Ieee.{binary64, of_bits}
 use lib.ListN.{length, get_or, drop, drop_of_length-le}
 use lib.Seq.{drop-cons}
-use Rattle.text_digits.specs.Digits.{digit, all_digits, worth, whole_of, is_number, number_of, is_float, bits_of, float_in, float_of}
-use Rattle.text_digits.specs.declared.kinds.FloatValue.{FloatValue}
-use Rattle.text_digits.specs.declared.kinds.Number.{Number}
+use Rattle.text_digits.specs.Digits.{digit, digit_of, all_digits, worth, whole_of, is_number, number_of, is_float, bits_of, float_in, float_of}
+use Rattle.std.proofs.Common.{Some, None}
 pub use Rattle.units.proofs.Tests.{and_false, and_left, and_right}
-
--- ---- the test against 2^64
-
-module _ (base n d : ℕ) (some : 0 < base) (small : d ≤ 18446744073709551615) where
-  pub fits_more : n ≤ (18446744073709551615 - d) / base → n * base + d < 2 ^ 64
-  fits_more h = let k = (le-div_iff_mul-le {x = n} {y = 18446744073709551615 - d} some).0 h in omega arith
-
-  pub passes : (18446744073709551615 - d) / base < n → 2 ^ 64 ≤ n * base + d
-  passes h = let k = (div-lt_iff_lt-mul {x = 18446744073709551615 - d} {y = n} some).0 h in omega arith
 
 pub worth_grows : (base : ℕ) → 0 < base → (n : ℕ) (xs : List ℕ) → n ≤ worth base n xs
 unfolding worth
@@ -32,6 +22,26 @@ worth_grows base some n (x ∷ xs) =
     let more = worth_grows base some (n * base + digit x) xs in
     let up = le-mul_of_pos_right n some in
     omega arith
+
+-- ---- what an answer says of the text
+
+pub read_of : (t : Bool) (w x : ℕ) → cond t (Some w) None ≡ Some x → (t ≡ true) × (w ≡ x)
+read_of true w x e = (refl, cc)
+read_of false w x e = let z : ◌≡◌ {A = ℕ} 0 1 = cc in absurd (omega arith)
+
+pub read_none : (t : Bool) (w : ℕ) → cond t (Some w) None ≡ None → t ≡ false
+read_none true w e = let z : ◌≡◌ {A = ℕ} 0 1 = cc in absurd (omega arith)
+read_none false w e = refl
+
+-- ---- a digit
+
+pub digit_none : (b : ℕ) → digit_of b ≡ None → 16 ≤ digit b
+unfolding digit_of
+digit_none b e = ltb-false (digit b) 16 (read_none (ltb (digit b) 16) (digit b) e)
+
+pub digit_some : (b d : ℕ) → digit_of b ≡ Some d → (d ≡ digit b) × (d < 16)
+unfolding digit_of
+digit_some b d e = let r = read_of (ltb (digit b) 16) (digit b) d e in let small = ltb-true (digit b) 16 r.0 in (sym r.1, omega arith)
 
 -- ---- the reading's turns
 
@@ -45,7 +55,7 @@ pub reading_starts : (base : ℕ) (value : List ℕ) → Reading base value 0 0
 reading_starts base value = record { digits = refl; sum = refl; fits = omega arith }
 
 module _ (base : ℕ) (value : List ℕ) (n i : ℕ) (s : Reading base value n i) where
-  pub reading_ends : length value ≤ i → Number.Of n ≡ whole_of base value
+  pub reading_ends : length value ≤ i → Some n ≡ whole_of base value
   unfolding whole_of all_digits worth
   reading_ends h =
       let none = drop_of_length-le value h in
@@ -62,13 +72,13 @@ module _ (base : ℕ) (value : List ℕ) (n i : ℕ) (s : Reading base value n i
     unfolding worth
     sum_here = rw (drop-cons value i 0 h, e, add-one)
 
-    pub reading_stops : base ≤ d → Number.Unreadable ≡ whole_of base value
+    pub reading_stops : base ≤ d → None ≡ whole_of base value
     unfolding whole_of
     reading_stops k =
         let some : all_digits base value ≡ false = sym s.digits ∙ digits_here ∙ rw (le-ltb d base k) refl in
         rw some
 
-    pub reading_passes : 0 < base → 2 ^ 64 ≤ n * base + d → Number.Unreadable ≡ whole_of base value
+    pub reading_passes : 0 < base → 2 ^ 64 ≤ n * base + d → None ≡ whole_of base value
     unfolding whole_of
     reading_passes some k =
         let more = worth_grows base some (n * base + d) (drop (i + 1) value) in
@@ -108,34 +118,24 @@ worth_fits k xs e h a =
     let p : 16 ^ k ≤ 16 ^ 16 = pow-le-pow_right (lit< tt) h in
     omega (arith, one-mul (16 ^ k))
 
--- ---- what an answer says of the text
-
-pub read_of : (t : Bool) (w x : ℕ) → cond t (Number.Of w) Number.Unreadable ≡ Number.Of x → (t ≡ true) × (w ≡ x)
-read_of true w x e = (refl, cc)
-read_of false w x e = let z : ◌≡◌ {A = ℕ} 0 1 = cc in absurd (omega arith)
-
-pub read_none : (t : Bool) (w : ℕ) → cond t (Number.Of w) Number.Unreadable ≡ Number.Unreadable → t ≡ false
-read_none true w e = let z : ◌≡◌ {A = ℕ} 0 1 = cc in absurd (omega arith)
-read_none false w e = refl
-
 -- hexadecimal digits that are few enough always fit
-pub whole_16 : (xs : List ℕ) → length xs ≤ 16 → whole_of 16 xs ≡ cond (all_digits 16 xs) (Number.Of (worth 16 0 xs)) Number.Unreadable
+pub whole_16 : (xs : List ℕ) → length xs ≤ 16 → whole_of 16 xs ≡ cond (all_digits 16 xs) (Some (worth 16 0 xs)) None
 unfolding whole_of
 whole_16 xs h = go (all_digits 16 xs) refl
   where
     go : (t : Bool) → all_digits 16 xs ≡ t
-        → cond (t && ltb (worth 16 0 xs) (2 ^ 64)) (Number.Of (worth 16 0 xs)) Number.Unreadable ≡ cond t (Number.Of (worth 16 0 xs)) Number.Unreadable
+        → cond (t && ltb (worth 16 0 xs) (2 ^ 64)) (Some (worth 16 0 xs)) None ≡ cond t (Some (worth 16 0 xs)) None
     go true e = rw (lt-ltb (worth 16 0 xs) (2 ^ 64) (worth_fits (length xs) xs refl h e))
     go false e = refl
 
 -- ---- numbers
 
 module _ (limit : ℕ) (value : List ℕ) where
-  pub number_none : length value ≡ 0 → Number.Unreadable ≡ number_of limit value
+  pub number_none : length value ≡ 0 → None ≡ number_of limit value
   unfolding number_of is_number
   number_none e = rw e
 
-  pub number_long : 20 < length value → Number.Unreadable ≡ number_of limit value
+  pub number_long : 20 < length value → None ≡ number_of limit value
   unfolding number_of is_number
   number_long h = rw (lt-leb (length value) 20 h, and_false)
 
@@ -143,11 +143,11 @@ pub number_whole : (value : List ℕ) → (length value ≡ 0 → ⊥) → lengt
 unfolding whole_of number_of is_number
 number_whole value n h = rw (le-leb 1 (length value) (omega arith), le-leb (length value) 20 h)
 
-pub number_of_lem : (limit : ℕ) (value : List ℕ) (x : ℕ) → number_of limit value ≡ Number.Of x → (is_number limit value ≡ true) × (worth 10 0 value ≡ x)
+pub number_of_lem : (limit : ℕ) (value : List ℕ) (x : ℕ) → number_of limit value ≡ Some x → (is_number limit value ≡ true) × (worth 10 0 value ≡ x)
 unfolding number_of
 number_of_lem limit value x e = read_of (is_number limit value) (worth 10 0 value) x e
 
-pub number_not : (limit : ℕ) (value : List ℕ) → number_of limit value ≡ Number.Unreadable → is_number limit value ≡ false
+pub number_not : (limit : ℕ) (value : List ℕ) → number_of limit value ≡ None → is_number limit value ≡ false
 unfolding number_of
 number_not limit value e = read_none (is_number limit value) (worth 10 0 value) e
 
@@ -161,36 +161,36 @@ module _ (limit : ℕ) (value : List ℕ) (small : limit ≤ 2 ^ 64) where
   abbrev shape : Bool
   shape = leb 1 (length value) && leb (length value) 20 && all_digits 10 value
 
-  pub below_none : number_of (2 ^ 64) value ≡ Number.Unreadable → Number.Unreadable ≡ number_of limit value
+  pub below_none : number_of (2 ^ 64) value ≡ None → None ≡ number_of limit value
   unfolding number_of is_number
   below_none e = go shape refl (read_none (shape && ltb (worth 10 0 value) (2 ^ 64)) (worth 10 0 value) e)
     where
       go : (t : Bool) → shape ≡ t → t && ltb (worth 10 0 value) (2 ^ 64) ≡ false
-          → Number.Unreadable ≡ cond (t && ltb (worth 10 0 value) limit) (Number.Of (worth 10 0 value)) Number.Unreadable
+          → None ≡ cond (t && ltb (worth 10 0 value) limit) (Some (worth 10 0 value)) None
       go true k h =
           let past = ltb-false (worth 10 0 value) (2 ^ 64) h in
           let over : limit ≤ worth 10 0 value = omega arith in
           rw (le-ltb (worth 10 0 value) limit over)
       go false k h = refl
 
-  module _ (x : ℕ) (e : number_of (2 ^ 64) value ≡ Number.Of x) where
+  module _ (x : ℕ) (e : number_of (2 ^ 64) value ≡ Some x) where
     shaped : (shape ≡ true) × (worth 10 0 value ≡ x)
     unfolding number_of is_number
     shaped =
         let r = read_of (shape && ltb (worth 10 0 value) (2 ^ 64)) (worth 10 0 value) x e in
         (and_left shape (ltb (worth 10 0 value) (2 ^ 64)) r.0, r.1)
 
-    pub below_of : x < limit → Number.Of x ≡ number_of limit value
+    pub below_of : x < limit → Some x ≡ number_of limit value
     unfolding number_of is_number
     below_of h = rw (shaped.0, shaped.1, lt-ltb x limit h)
 
-    pub below_over : limit ≤ x → Number.Unreadable ≡ number_of limit value
+    pub below_over : limit ≤ x → None ≡ number_of limit value
     unfolding number_of is_number
     below_over h = rw (shaped.0, shaped.1, le-ltb x limit h)
 
 -- ---- floats
 
-pub bits_none : (value : List ℕ) → (length value ≡ 16 → ⊥) → Number.Unreadable ≡ bits_of value
+pub bits_none : (value : List ℕ) → (length value ≡ 16 → ⊥) → None ≡ bits_of value
 unfolding bits_of is_float
 bits_none value n = rw (ne_eqb (length value) 16 n)
 
@@ -198,18 +198,18 @@ pub bits_whole : (value : List ℕ) → length value ≡ 16 → whole_of 16 valu
 unfolding bits_of is_float
 bits_whole value e = whole_16 value (omega arith) ∙ rw (eq-eqb (length value) 16 e) refl
 
-pub bits_of_lem : (value : List ℕ) (x : ℕ) → bits_of value ≡ Number.Of x → (is_float value ≡ true) × (worth 16 0 value ≡ x)
+pub bits_of_lem : (value : List ℕ) (x : ℕ) → bits_of value ≡ Some x → (is_float value ≡ true) × (worth 16 0 value ≡ x)
 unfolding bits_of
 bits_of_lem value x e = read_of (is_float value) (worth 16 0 value) x e
 
-pub bits_not : (value : List ℕ) → bits_of value ≡ Number.Unreadable → is_float value ≡ false
+pub bits_not : (value : List ℕ) → bits_of value ≡ None → is_float value ≡ false
 unfolding bits_of
 bits_not value e = read_none (is_float value) (worth 16 0 value) e
 
-pub float_read : (value : List ℕ) (x : ℕ) → bits_of value ≡ Number.Of x → FloatValue.Of (of_bits binary64 x) ≡ float_of value
+pub float_read : (value : List ℕ) (x : ℕ) → bits_of value ≡ Some x → Some (of_bits binary64 x) ≡ float_of value
 unfolding float_of float_in
 float_read value x e = let r = bits_of_lem value x e in rw (r.0, r.1)
 
-pub float_bad : (value : List ℕ) → bits_of value ≡ Number.Unreadable → FloatValue.Unreadable ≡ float_of value
+pub float_bad : (value : List ℕ) → bits_of value ≡ None → None ≡ float_of value
 unfolding float_of
 float_bad value e = rw (bits_not value e)

@@ -4,81 +4,64 @@
 ghost use Rattle.std.specs.Prelude.{◌≡◌, ◌^◌, ◌≤◌, ◌<◌};
 ghost use Rattle.std.specs.Float.{binary64};
 ghost use Rattle.std.specs.Float.Ieee.{of_bits};
-ghost use Rattle.text_digits.specs.Digits.{digit as digits_digit, whole_of, number_of, bits_of, float_of};
-
-mod kinds;
-
-pub use kinds::{FloatValue, Number};
+ghost use Rattle.text_digits.specs.Digits.{digit_of, whole_of, number_of, bits_of, float_of};
 
 // A number: 1 to 20 decimal digits, below 2^64.
-pub fn number(value: &[u8]) -> Number
+#[tactic(auto, using(crate::proofs::Worth::number_none, crate::proofs::Worth::number_long, crate::proofs::Worth::number_whole))]
+pub fn number(value: &[u8]) -> Option<u64>
     ensures { result ≡ number_of (2 ^ 64) value.now }
 {
-    if value.len() == 0 {
-        return Number::Unreadable;
-    }
-    if 20 < value.len() {
-        return Number::Unreadable;
+    if value.is_empty() || 20 < value.len() {
+        return None;
     }
     whole(value, 10)
 }
 
 // A float: its bits as 16 hexadecimal digits. Each NaN's bits are read as a NaN.
-pub fn float(value: &[u8]) -> FloatValue
+#[tactic(auto, using(crate::proofs::Worth::float_read, crate::proofs::Worth::float_bad))]
+pub fn float(value: &[u8]) -> Option<f64>
     ensures { result ≡ float_of value.now }
 {
-    match bits(value) {
-        Number::Of(n) => FloatValue::Of(float_of(n)),
-        Number::Unreadable => FloatValue::Unreadable,
-    }
+    let bits = bits(value)?;
+    Some(float_of(bits))
 }
 
 // The bits of a float: 16 hexadecimal digits.
-pub fn bits(value: &[u8]) -> Number
+#[tactic(auto, using(crate::proofs::Worth::bits_none, crate::proofs::Worth::bits_whole))]
+pub fn bits(value: &[u8]) -> Option<u64>
     ensures { result ≡ bits_of value.now }
 {
     if value.len() != 16 {
-        return Number::Unreadable;
+        return None;
     }
     whole(value, 16)
 }
 
-// What digits of a base are worth together, the highest first.
-pub fn whole(value: &[u8], base: u64) -> Number
+// What digits of a base are worth together, the highest first, where that is below 2^64.
+pub fn whole(value: &[u8], base: u64) -> Option<u64>
     requires { (1 < base) × (base ≤ 16) }
     ensures { result ≡ whole_of base value.now }
 {
     let mut n: u64 = 0;
-    let mut i = 0;
-    while i < value.len() {
-        let d = digit(value[i]);
+    for &b in value {
+        let d = digit(b)?;
         if base <= d {
-            return Number::Unreadable;
+            return None;
         }
-        if (18446744073709551615 - d) / base < n {
-            return Number::Unreadable;
-        }
-        n = n * base + d;
-        i += 1;
+        n = n.checked_mul(base)?.checked_add(d)?;
     }
-    Number::Of(n)
+    Some(n)
 }
 
-// What a byte is worth as a digit, 16 where it is none.
-pub fn digit(b: u8) -> u64
-    ensures value { result ≡ digits_digit b }
-    ensures upper_bound { result ≤ 16 }
+// What a byte is worth as a digit: `0` to `9`, then `a` to `f`.
+#[tactic(auto, unfolding(crate::specs::Digits::digit, crate::specs::Digits::digit_of))]
+pub fn digit(b: u8) -> Option<u64>
+    ensures { result ≡ digit_of b }
 {
-    if b < 48 {
-        16
-    } else if b < 58 {
-        (b - 48) as u64
-    } else if b < 97 {
-        16
-    } else if b < 103 {
-        (b - 87) as u64
-    } else {
-        16
+    match b {
+        b'0'..=b'9' => Some((b - b'0') as u64),
+        b'a'..=b'f' => Some((b - b'a' + 10) as u64),
+        _ => None,
     }
 }
 
@@ -89,10 +72,8 @@ pub fn float_of(bits: u64) -> f64
 {
     let below = bits % 4503599627370496;
     let exponent = bits % 9223372036854775808 / 4503599627370496;
-    if exponent == 2047 {
-        if below != 0 {
-            return 0.0 / 0.0;
-        }
+    if exponent == 2047 && below != 0 {
+        return f64::NAN;
     }
     f64::from_bits(bits)
 }

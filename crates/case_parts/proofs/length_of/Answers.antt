@@ -1,13 +1,13 @@
 -- `case_parts::length_of` meets its contract: the number that was found, if it could be read. Assumes nothing.
+use Rattle.std.proofs.Common.{Option}
 use Prim.Native.Nat.{ℕ}
 use mathlib.Core.Bool.{Bool, true, false}
 use mathlib.Core.Path.{◌≡◌, sym, ◌∙◌}
-use Rattle.text_digits.specs.declared.kinds.Number.{Number}
 use Rattle.case_field_reads.specs.Reads.{is_read, number_in}
 use Rattle.case_parts.specs.Parts.{unread, length_for}
 use Rattle.case_parts.proofs.length_of.Goals as goal
 
-module _ {n said : Number} {t : Bool} (e : n ≡ said) (told : t ≡ is_read n) where
+module _ {n said : Option ℕ} {t : Bool} (e : n ≡ said) (told : t ≡ is_read n) where
   as_said : {r : ℕ} → t ≡ true → r ≡ number_in n → r ≡ length_for said
   as_said yes' number = rw (← e, sym told ∙ yes') number
 

@@ -3,11 +3,11 @@ use Prim.Native.Nat.{ℕ, ◌/◌, ◌%◌}
 use mathlib.Core.Bool.{true, false}
 use mathlib.Core.Path.{◌≡◌, refl, sym, ◌∙◌}
 use borrow.Author.Tests.{eq-eqb, ne_eqb}
-use lib.Ieee.{Float, nan, inf, fin, binary64, div, of_bits, nan_bits, is_nan}
+use lib.Ieee.{Float, nan, inf, fin, binary64, of_bits, nan_bits, is_nan}
 use lib.Ieee.Bits.{nan_bits_is}
 use native.Mathlib.Omega.{arith}
 use Rattle.text_digits.proofs.float_of.Goals as goal
-use Rattle.text_digits.proofs.float_of.Goals.{then-exponent-eq2047+else-below-ne0, else-exponent-eq2047}
+use Rattle.text_digits.proofs.float_of.Goals.{else-exponent-eq2047-via-then-exponent-eq2047+else-below-ne0, else-exponent-eq2047-via-else-exponent-eq2047}
 
 nan_is : (x : Float) → is_nan x ≡ true → nan ≡ x
 unfolding is_nan
@@ -28,17 +28,17 @@ module _ (bits : ℕ) where
   unfolding nan_bits
   no_ones n = simp (ne_eqb (bits % 9223372036854775808 / 4503599627370496) 2047 n)
 
-zeros : div binary64 (of_bits binary64 0) (of_bits binary64 0) ≡ nan
-unfolding div of_bits
-zeros = refl
+a_nan : of_bits binary64 9221120237041090560 ≡ nan
+unfolding of_bits
+a_nan = refl
 
 pub returns-then-below-ne0 : goal.returns-then-below-ne0
-returns-then-below-ne0 c = let bits = c.args.bits in zeros ∙ nan_is (of_bits binary64 bits) (sym (nan_bits_is binary64 bits) ∙ all_ones bits c.if-exponent-eq2047.true c.if-below-ne0.true)
+returns-then-below-ne0 c = let bits = c.args.bits in a_nan ∙ nan_is (of_bits binary64 bits) (sym (nan_bits_is binary64 bits) ∙ all_ones bits c.if-exponent-eq2047.true c.if-below-ne0.true)
 
 pub float_from_bits-result : goal.float_from_bits-result
 float_from_bits-result c = let bits = c.args.bits in
-    let plain : nan_bits binary64 bits ≡ false = elim c.if-exponent-eq2047.branch [
-      | then-exponent-eq2047+else-below-ne0 w ↦ no_digit bits w.if-exponent-eq2047.true w.if-below-ne0.false
-      | else-exponent-eq2047 w ↦ no_ones bits w.if-exponent-eq2047.false
+    let plain : nan_bits binary64 bits ≡ false = elim c.else-exponent-eq2047.branch [
+      | else-exponent-eq2047-via-then-exponent-eq2047+else-below-ne0 w ↦ no_digit bits w.if-exponent-eq2047.true w.if-below-ne0.false
+      | else-exponent-eq2047-via-else-exponent-eq2047 w ↦ no_ones bits w.if-exponent-eq2047.false
     ] in
     rw plain tt

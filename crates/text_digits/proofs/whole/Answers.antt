@@ -1,37 +1,41 @@
--- `text_digits::whole` meets its contract. The loop's invariant is what `Reading` says of the place that it has come to. Assumes nothing.
+-- `text_digits::whole` meets its contract: a turn stops at a byte that is no digit or where the worth passes 2^64. Assumes nothing.
 use native.Mathlib.Omega.{arith}
-use Prim.Native.Nat.{◌+◌, ◌*◌, ◌^◌, ◌<◌}
-use Rattle.text_digits.proofs.Worth.{fits_more, passes, reading_starts, reading_ends, reading_stops, reading_passes, reading_goes_on}
+use Rattle.std.proofs.Common.{◌≡◌, ◌+◌, ◌*◌, ◌^◌, ◌<◌, ◌≤◌, get_or, refl, sym, ◌∙◌}
+use Rattle.text_digits.specs.Digits.{digit}
+use Rattle.text_digits.proofs.Worth.{digit_none, digit_some, reading_starts, reading_ends, reading_stops, reading_passes, reading_goes_on}
 use Rattle.text_digits.proofs.whole.Goals as goal
 
-pub loop-i-init : goal.loop-i-init
-loop-i-init c = reading_starts c.args.base c.args.value.now
+pub loop-b-init : goal.loop-b-init
+loop-b-init c = reading_starts c.args.base c.args.value.now
+
+pub returns-in_err-d : goal.returns-in_err-d
+returns-in_err-d c = let a = c.args in let s = c.loop-b in
+    let none : 16 ≤ digit (get_or a.value.now s.b-index 0) = digit_none _ (sym c.digit.ensures ∙ c.in_err-d.was) in
+    c.from_residual.ensures ∙ reading_stops a.base a.value.now s.n s.b-index s.invariant _ c.loop-b-test.true refl (omega (arith, c.requires))
 
 pub returns-then-base-d : goal.returns-then-base-d
-returns-then-base-d c = let a = c.args in
-    reading_stops a.base a.value.now c.loop-i.n c.loop-i.i c.loop-i.invariant c.digit-d.result c.loop-i-test.true c.digit-d.ensures.value c.if-base-d.true
+returns-then-base-d c = let a = c.args in let s = c.loop-b in
+    let some = digit_some (get_or a.value.now s.b-index 0) c.in_ok-d.d (sym c.digit.ensures ∙ c.in_ok-d.was) in
+    reading_stops a.base a.value.now s.n s.b-index s.invariant _ c.loop-b-test.true some.0 c.if-base-d.true
 
-pub overflow_sub-d : goal.overflow_sub-d
-overflow_sub-d c = omega (arith, c.digit-d.ensures.upper_bound)
+pub returns-in_err-checked_mul : goal.returns-in_err-checked_mul
+returns-in_err-checked_mul c = let a = c.args in let s = c.loop-b in
+    let some = digit_some (get_or a.value.now s.b-index 0) c.in_ok-d.d (sym c.digit.ensures ∙ c.in_ok-d.was) in
+    let past : 2 ^ 64 ≤ s.n * a.base + c.in_ok-d.d = (let over : s.n * a.base < 2 ^ 64 → ⊥ = c.in_err-checked_mul.ensures in omega arith) in
+    c.from_residual-in_err-checked_mul.ensures ∙ reading_passes a.base a.value.now s.n s.b-index s.invariant _ c.loop-b-test.true some.0 (omega (arith, c.requires)) past
 
-pub nonzero_div-d : goal.nonzero_div-d
-nonzero_div-d c = omega (arith, c.requires)
+pub returns-in_err-n : goal.returns-in_err-n
+returns-in_err-n c = let a = c.args in let s = c.loop-b in
+    let some = digit_some (get_or a.value.now s.b-index 0) c.in_ok-d.d (sym c.digit.ensures ∙ c.in_ok-d.was) in
+    let past : 2 ^ 64 ≤ s.n * a.base + c.in_ok-d.d = (let one = c.in_ok-checked_mul.ensures in let over : c.in_ok-checked_mul.field-0 + c.in_ok-d.d < 2 ^ 64 → ⊥ = c.in_err-n.ensures in omega arith) in
+    c.from_residual-in_err-n.ensures ∙ reading_passes a.base a.value.now s.n s.b-index s.invariant _ c.loop-b-test.true some.0 (omega (arith, c.requires)) past
 
-pub returns-then-d-base : goal.returns-then-d-base
-returns-then-d-base c = let a = c.args in
-    reading_passes a.base a.value.now c.loop-i.n c.loop-i.i c.loop-i.invariant c.digit-d.result c.loop-i-test.true c.digit-d.ensures.value (omega (arith, c.requires))
-    (passes a.base c.loop-i.n c.digit-d.result (omega (arith, c.requires)) ((omega (arith, c.digit-d.ensures.upper_bound))) c.if-d-base.true)
-
-pub overflow_mul-n : goal.overflow_mul-n
-overflow_mul-n c = let more : c.loop-i.n * c.args.base + c.digit-d.result < 2 ^ 64 = fits_more c.args.base c.loop-i.n c.digit-d.result ((omega (arith, c.requires))) ((omega (arith, c.digit-d.ensures.upper_bound))) c.if-d-base.false in omega arith
-
-pub overflow_add-n : goal.overflow_add-n
-overflow_add-n c = let more : c.loop-i.n * c.args.base + c.digit-d.result < 2 ^ 64 = fits_more c.args.base c.loop-i.n c.digit-d.result ((omega (arith, c.requires))) ((omega (arith, c.digit-d.ensures.upper_bound))) c.if-d-base.false in omega arith
-
-pub loop-i-preserved : goal.loop-i-preserved
-loop-i-preserved c = let a = c.args in
-    reading_goes_on a.base a.value.now c.loop-i.n c.loop-i.i c.loop-i.invariant c.digit-d.result c.loop-i-test.true c.digit-d.ensures.value
-    c.if-base-d.false ((fits_more c.args.base c.loop-i.n c.digit-d.result ((omega (arith, c.requires))) ((omega (arith, c.digit-d.ensures.upper_bound))) c.if-d-base.false))
+pub loop-b-preserved : goal.loop-b-preserved
+loop-b-preserved c = let a = c.args in let s = c.loop-b in
+    let some = digit_some (get_or a.value.now s.b-index 0) c.in_ok-d.d (sym c.digit.ensures ∙ c.in_ok-d.was) in
+    let same : s.n * a.base + c.in_ok-d.d ≡ c.in_ok-n.n = omega (arith, c.in_ok-n.ensures, c.in_ok-checked_mul.ensures) in
+    let fits : s.n * a.base + c.in_ok-d.d < 2 ^ 64 = omega (arith, c.in_ok-n.ensures, c.in_ok-checked_mul.ensures) in
+    rw same at (reading_goes_on a.base a.value.now s.n s.b-index s.invariant _ c.loop-b-test.true some.0 c.if-base-d.false fits)
 
 pub returns : goal.returns
-returns c = let a = c.args in reading_ends a.base a.value.now c.loop-i.n c.loop-i.i c.loop-i.invariant c.loop-i-test.false
+returns c = reading_ends c.args.base c.args.value.now c.loop-b.n c.loop-b.b-index c.loop-b.invariant c.loop-b-test.false
