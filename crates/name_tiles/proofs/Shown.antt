@@ -98,8 +98,8 @@ unfolding shown_name
 unnamed_shows_its_place strands n i e absent =
     let r = tile_readable strands n (i + 1) e in
     let less : i + 1 - 1 ≡ i = omega arith in
-    let below : i < 63 = omega (arith, r.1, r.0.few) in
-    rw (ne_eqb (get_or n.present (i + 1) 0) 1 absent, less, r.0.numerals_right) (shown_is_decimal 63 i (omega arith) below)
+    let below : i < 63 = omega (arith, r.tile_in_bounds, r.strands_readable.few) in
+    rw (ne_eqb (get_or n.present (i + 1) 0) 1 absent, less, r.strands_readable.numerals_right) (shown_is_decimal 63 i (omega arith) below)
 
 -- a tile with a name shows it, and tile 0 shows `null`
 pub named_shows_its_name : (n : StrandNames) (tile : ℕ) → get_or n.present tile 0 ≡ 1 → shown_name n tile ≡ entry_of n.text n.offsets tile

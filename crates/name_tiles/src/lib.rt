@@ -2,63 +2,41 @@
 #![tactic(auto)]
 
 ghost use Rattle.std.specs.Prelude.{◌≡◌};
-ghost use Rattle.units.specs.Refusals.{number_in};
-ghost use Rattle.name_strands.specs.Names.{strand_names};
-ghost use Rattle.name_tiles.specs.Tiles.{tile_verdict, number_answer, number_of, tile_part};
+ghost use Rattle.name_strands.specs.Names.{strand_names_of};
+ghost use Rattle.name_tiles.specs.Tiles.{tile_verdict, tile_part};
 ghost use Rattle.name_shown.specs.Shown.{bytes_of, begins_at};
 
 use name_shown::shown;
-use name_strands::{names_read, names_sized};
-
-// That a tile's name is shown, or the number of the refusal.
-#[derive(Clone, Copy)]
-pub enum NumberAnswer {
-    Shown,
-    Refused(u32),
-}
+use name_strands::StrandNames;
+use units::Refusal;
 
 // What is refused of a tile's name.
-pub fn tile_name_refusal(
-    strands: usize,
-    text: &[u8],
-    offsets: &[usize],
-    present: &[u8],
-    numerals: &[u8],
-    tile: u32,
-) -> NumberAnswer
-    ensures refusal { let n = strand_names text.now offsets.now present.now numerals.now in
-        number_of result ≡ number_in (tile_verdict strands n tile) }
-    ensures answer { let n = strand_names text.now offsets.now present.now numerals.now in
-        result ≡ number_answer (tile_verdict strands n tile) }
+#[tactic(auto, using(name_strands::proofs::Passed::first_there, name_strands::proofs::Passed::sized))]
+pub fn tile_name_refusal(strands: usize, names: &StrandNames<'_>, tile: u32) -> Result<(), Refusal>
+    ensures { result ≡ tile_verdict strands (strand_names_of names.now) tile }
 {
-    if !names_sized(strands, text, offsets, present) {
-        return NumberAnswer::Refused(1);
+    if !names.sized(strands) {
+        return Err(Refusal::Size);
     }
-    if !names_read(text, offsets, present, numerals) {
-        return NumberAnswer::Refused(17);
+    if !names.readable() {
+        return Err(Refusal::Unreadable);
     }
     if strands <= tile as usize {
-        return NumberAnswer::Refused(6);
+        return Err(Refusal::Tile);
     }
-    NumberAnswer::Shown
+    Ok(())
 }
 
 // The part that is shown for a tile, empty from the names text's start where it is refused.
-pub fn tile_name<'a>(
-    strands: usize,
-    text: &'a [u8],
-    offsets: &[usize],
-    present: &[u8],
-    numerals: &'a [u8],
-    tile: u32,
-) -> &'a [u8]
-    ensures answer { let n = strand_names text.now offsets.now present.now numerals.now in
+#[tactic(auto, using(crate::proofs::Tile::tile_readable), unfolding(name_shown::specs::Shown::shown_name))]
+pub fn tile_name<'a>(strands: usize, names: &StrandNames<'a>, tile: u32) -> &'a [u8]
+    ensures answer { let n = strand_names_of names.now in
         result.now ≡ bytes_of n (tile_part strands n tile) }
-    ensures place { let n = strand_names text.now offsets.now present.now numerals.now in
-        result.ref_ptr ≡ begins_at text.entry.ref_ptr numerals.entry.ref_ptr (tile_part strands n tile) }
+    ensures place { let part = tile_part strands (strand_names_of names.now) tile in
+        result.ref_ptr ≡ begins_at names.now.names.text.ref_ptr names.now.numerals.ref_ptr part }
 {
-    match tile_name_refusal(strands, text, offsets, present, numerals, tile) {
-        NumberAnswer::Refused(_) => &text[..0],
-        NumberAnswer::Shown => shown(text, offsets, present, numerals, tile as usize),
+    match tile_name_refusal(strands, names, tile) {
+        Ok(()) => shown(names, tile as usize),
+        Err(_) => &names.names.text[..0],
     }
 }
