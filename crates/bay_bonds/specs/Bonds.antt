@@ -1,18 +1,19 @@
 -- Bonds of glues: a cell of the two matrices at a temperature, in units of R·T. Assumes nothing.
-use Rattle.std.specs.Prelude.{ℕ, List, Float}
+use Rattle.std.specs.Prelude.{ℕ, Float}
 use Rattle.units.specs.declared.StrandGlues.{StrandGlues}
 use Rattle.units.specs.Glues.{north_of, east_of, south_of, west_of, bottom_of}
 use Rattle.units.specs.Kelvin.{energy_at, times_beta}
+use Rattle.bay_system.specs.System.{System}
 use Rattle.bay_glues.specs.Tables.{cell_of}
 
-module _ (delta_g entropy : List Float) (glues : ℕ) (kelvin : Float) where
+module _ (s : System) where
   -- ΔG of two glues at a temperature: ΔG − (T − 310.15)·ΔS of cell (a, b)
   abbrev pub glue_glue_dg : (a b : ℕ) → Float
-  glue_glue_dg a b = energy_at (cell_of delta_g entropy glues a b) kelvin
+  glue_glue_dg a b = energy_at (cell_of s a b) s.sizes.kelvin
 
   -- the same in units of R·T
   abbrev pub glue_bond : (a b : ℕ) → Float
-  glue_bond a b = times_beta (glue_glue_dg a b) kelvin
+  glue_bond a b = times_beta (glue_glue_dg a b) s.sizes.kelvin
 
   -- the west strand's east glue to the east strand's west glue; the north strand's south glue to the south strand's north glue;
   -- the bay's glue to the strand's bottom glue: in that index order

@@ -1,12 +1,13 @@
 -- What is asked of the tables that bonds of strands are read from; a system that passed its tests has it. Assumes nothing.
-use Rattle.std.specs.Prelude.{ℕ, ◌*◌, ◌≤◌, ◌<◌, ◌≡◌, List, Float, length, get_or}
+use Rattle.std.specs.Prelude.{ℕ, ◌*◌, ◌≤◌, ◌<◌, ◌≡◌, length, get_or}
 use Rattle.units.specs.Limits.{most_strands, most_glues}
+use Rattle.bay_system.specs.System.{System}
 
 -- glues in range, two square matrices over them, five glues for each strand, each below the count
-pub record Readable (strands glues : ℕ) (strand_glues : List ℕ) (delta_g entropy : List Float) : Type 0 where
-  pub few_strands : strands ≤ most_strands
-  pub few_glues : glues ≤ most_glues
-  pub energies : length delta_g ≡ glues * glues
-  pub entropies : length entropy ≡ glues * glues
-  pub five : length strand_glues ≡ strands * 5
-  pub below : (i : ℕ) → i < length strand_glues → get_or strand_glues i 0 < glues
+pub record Readable (s : System) : Type 0 where
+  pub few_strands : s.sizes.strands ≤ most_strands
+  pub few_glues : s.sizes.glues ≤ most_glues
+  pub energies : length s.delta_g ≡ s.sizes.glues * s.sizes.glues
+  pub entropies : length s.entropy ≡ s.sizes.glues * s.sizes.glues
+  pub five : length s.strand_glues ≡ s.sizes.strands * 5
+  pub below : (i : ℕ) → i < length s.strand_glues → get_or s.strand_glues i 0 < s.sizes.glues
