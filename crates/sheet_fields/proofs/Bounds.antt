@@ -1,5 +1,5 @@
 -- Where a field's places lie: they follow each other and stay within the text. Assumes nothing.
-use Prim.Native.Nat.{ℕ, suc, ◌+◌, ◌-◌, ◌≤◌, zero-le, suc-le-suc}
+use Prim.Native.Nat.{ℕ, suc, ◌+◌, ◌-◌, ◌≤◌, zero-le}
 use mathlib.Core.Bool.{Bool, true, false, cond, ◌&&◌}
 use mathlib.Core.List.{List, [], ◌∷◌}
 use mathlib.Core.Path.{◌≡◌, refl}
@@ -8,27 +8,18 @@ use borrow.Author.Tests.{eqb-true}
 use lib.Dec.{eqb}
 use lib.ListN.{length, get_or, take, drop, length-drop, length-take}
 use lib.Seq.{drop-drop}
-use Rattle.sheet_fields.specs.Fields.{is_plain, plain_length, quoted_length, ending_of, broken, field_of, bare_field, quoted_field, is_quoted, field, field_at, unquoted, raw, content, after}
-use Rattle.sheet_fields.specs.declared.Ending.{Ending}
-use Rattle.sheet_fields.specs.declared.Field.{Field}
-use Rattle.sheet_fields.proofs.Scanning.{width_within, quote_within}
+use Rattle.sheet_fields.specs.Fields.{plain_length, quoted_length, ending_of, broken, field_of, bare_field, quoted_field, is_quoted, field, field_at, unquoted, raw, content, after}
+use Rattle.sheet_fields.specs.Fields.{EndFound}
+use Rattle.sheet_fields.specs.Fields.{FieldFound}
+use Rattle.sheet_fields.proofs.Scanning.{plain_within, width_within, quote_within}
 
 -- a field's places within a text
-pub record Within (t : List ℕ) (f : Field) : Type 0 where
+pub record Within (t : List ℕ) (f : FieldFound) : Type 0 where
   pub ordered : f.from ≤ f.to
   pub onward : f.to ≤ f.next
   pub ends : f.next ≤ length t
 
-plain_within : (t : List ℕ) → plain_length t ≤ length t
-unfolding plain_length
-plain_within [] = zero-le
-plain_within (b ∷ t) = go (is_plain b) (plain_within t)
-  where
-    go : (p : Bool) → plain_length t ≤ length t → cond p (suc (plain_length t)) 0 ≤ suc (length t)
-    go true h = suc-le-suc h
-    go false h = zero-le
-
-placed_within : (t : List ℕ) (from to at : ℕ) (e : Ending) → from ≤ to → to ≤ at → (e.sound ≡ true → at + e.width ≤ length t) → Within t (field_of from to at e)
+placed_within : (t : List ℕ) (from to at : ℕ) (e : EndFound) → from ≤ to → to ≤ at → (e.sound ≡ true → at + e.width ≤ length t) → Within t (field_of from to at e)
 unfolding field_of
 placed_within t from to at e h k ends = go e.sound ends
   where

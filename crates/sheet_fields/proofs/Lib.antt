@@ -1,3 +1,4 @@
+pub mod Answers
 pub mod Bounds
 pub mod Faults
 pub mod Passing

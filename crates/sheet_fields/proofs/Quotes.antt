@@ -9,8 +9,8 @@ use borrow.Author.Tests.{ne_eqb}
 use lib.Dec.{eqb}
 use lib.ListN.{length, take, drop}
 use Rattle.sheet_fields.specs.Fields.{is_plain, plain_length, ending_of, field_of, bare_field, quoted_field, is_quoted, field, unquoted, raw, content}
-use Rattle.sheet_fields.specs.declared.Ending.{Ending}
-use Rattle.sheet_fields.specs.declared.Field.{Field}
+use Rattle.sheet_fields.specs.Fields.{EndFound}
+use Rattle.sheet_fields.specs.Fields.{FieldFound}
 
 unfoldable pub has_quote : List ℕ → Bool
 has_quote [] = false
@@ -84,10 +84,10 @@ plain_front (b ∷ t) = go (is_plain b) refl (plain_front t)
     go true e h = rw (plain_no_quote b e) h
     go false e h = refl
 
-abbrev between : Field → List ℕ → List ℕ
+abbrev between : FieldFound → List ℕ → List ℕ
 between f t = take (f.to - f.from) (drop f.from t)
 
-bare_no_quote : (t : List ℕ) (e : Ending) → has_quote (between (field_of 0 (plain_length t) (plain_length t) e) t) ≡ false
+bare_no_quote : (t : List ℕ) (e : EndFound) → has_quote (between (field_of 0 (plain_length t) (plain_length t) e) t) ≡ false
 unfolding field_of has_quote
 bare_no_quote t e = go e.sound
   where

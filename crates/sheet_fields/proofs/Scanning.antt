@@ -1,51 +1,56 @@
 -- Laws of the scanner's turns: over plain bytes, within quotes, and what its functions find together. Assumes nothing.
-use Prim.Native.Nat.{ℕ, suc, ◌+◌, ◌-◌, ◌^◌, ◌≤◌, ◌<◌, zero-le}
-use mathlib.Core.Bool.{Bool, true, false, cond, ◌&&◌}
+use Prim.Native.Nat.{ℕ, suc, ◌+◌, ◌-◌, ◌^◌, ◌≤◌, ◌<◌, zero-le, suc-le-suc}
+use mathlib.Core.Bool.{Bool, true, false, cond, not, ◌&&◌}
 use mathlib.Core.List.{List, [], ◌∷◌}
 use mathlib.Core.Path.{◌≡◌, refl, sym, ap, ◌∙◌}
 use native.Mathlib.Nat.{add-zero, add_assoc}
-use native.Mathlib.Numerals.{add-one}
 use native.Mathlib.Omega.{arith}
 use borrow.Author.Tests.{eq-eqb, ne_eqb, leb-true, leb-false}
-use lib.Dec.{eqb, leb}
-use lib.ListN.{length, get_or, drop, drop_of_length-le, length-drop, get_or-eq_default}
-use lib.Seq.{drop-cons, drop-drop, get_or-drop}
-use Rattle.sheet_fields.specs.Fields.{is_plain, plain_length, quoted_length, ending_of, broken, ended, field_of, bare_field, quoted_field, is_quoted, moved}
-use Rattle.sheet_fields.specs.Scan.{quoted_step, placed}
+use lib.Dec.{eqb, ltb, leb}
+use lib.ListN.{length, get_or, take, drop, length-drop, get_or-eq_default}
+use lib.Seq.{drop-drop, get_or-drop, take_all}
+use Rattle.std.specs.Prelude.{Some, None, Option, unwrap_or}
+use Rattle.std.specs.Option.{option_map}
+use Rattle.std.proofs.lemmas.Bool.Decides.{nat_tests}
+use Rattle.std.proofs.lemmas.List.Sums.{prefix_len-le-length}
+use Rattle.std.specs.List.{position_or_len}
+use Rattle.std.proofs.lemmas.List.Recursion.{is_position_or_len}
+use Rattle.sheet_fields.specs.Fields.{EndFound, FieldFound, is_plain, plain_length, quoted_length, ending_of, broken, ended, field_of, bare_field, quoted_field, is_quoted, moved}
+use Rattle.sheet_fields.specs.Scan.{quoted_step}
+use Rattle.sheet_fields.specs.Answers.{ending_answer, field_answer}
 use Rattle.sheet_fields.specs.declared.Ending.{Ending}
 use Rattle.sheet_fields.specs.declared.Field.{Field}
 
--- ---- plain bytes
+-- ---- plain bytes, and bytes within quotes
 
-pub plain_past : (text : List ℕ) (i : ℕ) → length text ≤ i → plain_length (drop i text) ≡ 0
+pub plain_is : (t : List ℕ) → plain_length t ≡ position_or_len (λ (b : ℕ). not (is_plain b)) t
 unfolding plain_length
-plain_past text i h = rw (drop_of_length-le text h)
+plain_is = is_position_or_len plain_length (λ (b : ℕ). not (is_plain b)) refl next
+  where
+    turned : (p : Bool) (n : ℕ) → cond p (suc n) 0 ≡ cond (not p) 0 (1 + n)
+    turned true n = omega arith
+    turned false n = refl
 
-module _ (text : List ℕ) (i : ℕ) (h : i < length text) where
-  pub plain_stops : is_plain (get_or text i 0) ≡ false → plain_length (drop i text) ≡ 0
-  unfolding plain_length
-  plain_stops e = rw (drop-cons text i 0 h, e)
+    next : (b : ℕ) (t : List ℕ) → plain_length (b ∷ t) ≡ cond (not (is_plain b)) 0 (1 + plain_length t)
+    next b t = turned (is_plain b) (plain_length t)
 
-  pub plain_next : is_plain (get_or text i 0) ≡ true → plain_length (drop i text) ≡ suc (plain_length (drop (i + 1) text))
-  unfolding plain_length
-  plain_next e = rw (drop-cons text i 0 h, e, add-one)
-
--- ---- bytes within quotes
-
-pub quoted_past : (text : List ℕ) (i : ℕ) → length text ≤ i → quoted_length (drop i text) ≡ 0
-unfolding quoted_length
-quoted_past text i h = rw (drop_of_length-le text h)
+-- what a turn within quotes passes, by the first two bytes
+pub step_by : (t : List ℕ) → quoted_step t ≡ cond (eqb (length t) 0) 0 (cond (eqb (get_or t 0 0) 34) (cond (eqb (get_or t 1 0) 34) 2 0) 1)
+unfolding quoted_step
+step_by [] = refl
+step_by (a ∷ []) = refl
+step_by (a ∷ b ∷ t) = rw (ne_eqb (suc (suc (length t))) 0 (λ (e : suc (suc (length t)) ≡ 0). omega arith))
 
 -- a turn that passes some bytes stays within the text
-pub step_within : (t : List ℕ) → 0 < length t → quoted_step t ≤ length t
+pub step_within : (t : List ℕ) → quoted_step t ≤ length t
 unfolding quoted_step
-step_within [] h = absurd (omega arith)
-step_within (a ∷ []) h = go (eqb a 34)
+step_within [] = zero-le
+step_within (a ∷ []) = go (eqb a 34)
   where
     go : (q : Bool) → cond q 0 1 ≤ 1
     go true = omega arith
     go false = omega arith
-step_within (a ∷ b ∷ t) h = go (eqb a 34) (eqb b 34)
+step_within (a ∷ b ∷ t) = go (eqb a 34) (eqb b 34)
   where
     go : (q p : Bool) → cond q (cond p 2 0) 1 ≤ suc (suc (length t))
     go true true = omega arith
@@ -53,15 +58,15 @@ step_within (a ∷ b ∷ t) h = go (eqb a 34) (eqb b 34)
     go false p = omega arith
 
 -- what a turn passes and what is left make the whole
-pub step_length : (t : List ℕ) → 0 < length t → quoted_length t ≡ cond (eqb (quoted_step t) 0) 0 (quoted_step t + quoted_length (drop (quoted_step t) t))
+pub step_length : (t : List ℕ) → quoted_length t ≡ cond (eqb (quoted_step t) 0) 0 (quoted_step t + quoted_length (drop (quoted_step t) t))
 unfolding quoted_step quoted_length
-step_length [] h = absurd (omega arith)
-step_length (a ∷ []) h = go (eqb a 34)
+step_length [] = refl
+step_length (a ∷ []) = go (eqb a 34)
   where
     go : (q : Bool) → cond q 0 1 ≡ cond (eqb (cond q 0 1) 0) 0 (cond q 0 1 + quoted_length (drop (cond q 0 1) (a ∷ [])))
     go true = refl
     go false = refl
-step_length (a ∷ b ∷ t) h = go (eqb a 34) (eqb b 34)
+step_length (a ∷ b ∷ t) = go (eqb a 34) (eqb b 34)
   where
     go : (q p : Bool) → cond q (cond p (suc (suc (quoted_length t))) 0) (suc (quoted_length (b ∷ t)))
         ≡ cond (eqb (cond q (cond p 2 0) 1) 0) 0 (cond q (cond p 2 0) 1 + quoted_length (drop (cond q (cond p 2 0) 1) (a ∷ b ∷ t)))
@@ -69,41 +74,86 @@ step_length (a ∷ b ∷ t) h = go (eqb a 34) (eqb b 34)
     go true false = refl
     go false p = omega arith
 
-module _ (text : List ℕ) (i s : ℕ) (h : i < length text) (e : s ≡ quoted_step (drop i text)) where
-  some_left : 0 < length (drop i text)
-  some_left = rw length-drop (omega arith)
+-- the bytes from a place on, as a slice has them
+from_place : (text : List ℕ) (i : ℕ) → take (length text - i) (drop i text) ≡ drop i text
+from_place text i = take_all (length text - i) (drop i text) (rw length-drop (omega arith))
+
+module _ (text : List ℕ) (i s : ℕ) (e₀ : s ≡ quoted_step (take (length text - i) (drop i text))) where
+  e : s ≡ quoted_step (drop i text)
+  e = e₀ ∙ rw (from_place text i)
 
   pub quoted_stops : s ≡ 0 → quoted_length (drop i text) ≡ 0
-  quoted_stops z = let n : quoted_step (drop i text) ≡ 0 = sym e ∙ z in step_length (drop i text) some_left ∙ rw n
+  quoted_stops z = let n : quoted_step (drop i text) ≡ 0 = sym e ∙ z in step_length (drop i text) ∙ rw n
 
   pub quoted_next : (s ≡ 0 → ⊥) → quoted_length (drop i text) ≡ s + quoted_length (drop (i + s) text)
   quoted_next some =
-      step_length (drop i text) some_left ∙ rw (← e, ne_eqb s 0 some) (ap (λ (l : List ℕ). s + quoted_length l) (drop-drop s i text))
+      step_length (drop i text) ∙ rw (← e, ne_eqb s 0 some) (ap (λ (l : List ℕ). s + quoted_length l) (drop-drop s i text))
 
-  pub quoted_room : i + s ≤ length text
-  quoted_room =
-      let k : quoted_step (drop i text) ≤ length text - i = rw (← length-drop i text) (step_within (drop i text) some_left) in
+  pub quoted_room : i ≤ length text → i + s ≤ length text
+  quoted_room h =
+      let same = e in
+      let k : quoted_step (drop i text) ≤ length text - i = rw (← length-drop i text) (step_within (drop i text)) in
       omega arith
 
--- the turn by the bytes that the text has there
+-- the end before a text, by its first two bytes
+pub ending_by : (t : List ℕ)
+    → ending_of t ≡ cond (eqb (length t) 0) (ended false 0) (cond (eqb (get_or t 0 0) 44) (ended true 1)
+    (cond (eqb (get_or t 0 0) 10) (ended false 1) (cond (eqb (get_or t 0 0) 13) (cond (eqb (get_or t 1 0) 10) (ended false 2) broken) broken)))
+unfolding ending_of
+ending_by [] = refl
+ending_by (b ∷ t) = rw (ne_eqb (suc (length t)) 0 (λ (e : suc (length t) ≡ 0). omega arith)) (go (eqb b 13))
+  where
+    go : (p : Bool) → cond (eqb b 44) (ended true 1) (cond (eqb b 10) (ended false 1) (cond (p && eqb (get_or t 0 0) 10) (ended false 2) broken))
+        ≡ cond (eqb b 44) (ended true 1) (cond (eqb b 10) (ended false 1) (cond p (cond (eqb (get_or t 0 0) 10) (ended false 2) broken) broken))
+    go true = refl
+    go false = refl
+
+-- where the position of the first byte that is not plain is told, or the length where there is none
+pub end_of_plain : (t : List ℕ) (r : Option ℕ)
+    → r ≡ cond (ltb (position_or_len (λ (b : ℕ). not (is_plain b)) t) (length t)) (Some (position_or_len (λ (b : ℕ). not (is_plain b)) t)) None
+    → unwrap_or r (length t) ≡ plain_length t
+end_of_plain t r e = rw (e, plain_is t) (go (position_or_len test t) (prefix_len-le-length (λ (b : ℕ). not (test b)) t))
+  where
+    test : ℕ → Bool
+    test b = not (is_plain b)
+
+    go : (n : ℕ) → n ≤ length t → unwrap_or (cond (ltb n (length t)) (Some n) None) (length t) ≡ n
+    go n h = grind (arith, nat_tests)
+
+pub plain_within : (t : List ℕ) → plain_length t ≤ length t
+unfolding plain_length
+plain_within [] = zero-le
+plain_within (b ∷ t) = go (is_plain b) (plain_within t)
+  where
+    go : (p : Bool) → plain_length t ≤ length t → cond p (suc (plain_length t)) 0 ≤ suc (length t)
+    go true h = suc-le-suc h
+    go false h = zero-le
+
+pub quoted_within : (t : List ℕ) → quoted_length t ≤ length t
+unfolding quoted_length
+quoted_within [] = zero-le
+quoted_within (a ∷ []) = go (eqb a 34)
+  where
+    go : (q : Bool) → cond q 0 1 ≤ 1
+    go true = omega arith
+    go false = omega arith
+quoted_within (a ∷ b ∷ t) = go (eqb a 34) (eqb b 34) (quoted_within t) (quoted_within (b ∷ t))
+  where
+    go : (q p : Bool) → quoted_length t ≤ length t → quoted_length (b ∷ t) ≤ suc (length t)
+        → cond q (cond p (suc (suc (quoted_length t))) 0) (suc (quoted_length (b ∷ t))) ≤ suc (suc (length t))
+    go true true h k = omega arith
+    go true false h k = omega arith
+    go false p h k = omega arith
+
+-- a place no further on than the bytes that are left is a place of the machine
+pub front_fits : (text : List ℕ) (at n : ℕ) → n ≤ length (drop at text) → at < 2 ^ 64 → length text < 2 ^ 64 → at + n < 2 ^ 64
+front_fits text at n h k j = let some : n ≤ length text - at = rw (← length-drop at text) h in omega arith
+
+-- ---- the quote at a field's front
+
 module _ (text : List ℕ) (i : ℕ) where
   first : get_or (drop i text) 0 0 ≡ get_or text i 0
   first = get_or-drop i text 0 0 ∙ ap (λ (n : ℕ). get_or text n 0) (add-zero i)
-
-  second : get_or (drop i text) 1 0 ≡ get_or text (i + 1) 0
-  second = get_or-drop i text 1 0
-
-  pub step_one : (get_or text i 0 ≡ 34 → ⊥) → 1 ≡ quoted_step (drop i text)
-  unfolding quoted_step
-  step_one n = rw (first, ne_eqb (get_or text i 0) 34 n)
-
-  pub step_two : get_or text i 0 ≡ 34 → get_or text (i + 1) 0 ≡ 34 → 2 ≡ quoted_step (drop i text)
-  unfolding quoted_step
-  step_two a b = rw (first, second, eq-eqb (get_or text i 0) 34 a, eq-eqb (get_or text (i + 1) 0) 34 b)
-
-  pub step_none : get_or text i 0 ≡ 34 → (get_or text (i + 1) 0 ≡ 34 → ⊥) → 0 ≡ quoted_step (drop i text)
-  unfolding quoted_step
-  step_none a n = rw (first, second, eq-eqb (get_or text i 0) 34 a, ne_eqb (get_or text (i + 1) 0) 34 n)
 
   pub quote_first : get_or text i 0 ≡ 34 → is_quoted (drop i text) ≡ true
   unfolding is_quoted
@@ -122,38 +172,6 @@ module _ (text : List ℕ) (i : ℕ) where
       go false k = leb-false (length text) i k
 
 -- ---- a field's end
-
-pub ending_past : (text : List ℕ) (at : ℕ) → length text ≤ at → ended false 0 ≡ ending_of (drop at text)
-unfolding ending_of
-ending_past text at h = rw (drop_of_length-le text h)
-
-module _ (text : List ℕ) (at : ℕ) (h : at < length text) where
-  pub ending_comma : get_or text at 0 ≡ 44 → ended true 1 ≡ ending_of (drop at text)
-  unfolding ending_of
-  ending_comma e = rw (drop-cons text at 0 h, eq-eqb (get_or text at 0) 44 e)
-
-  module _ (a : get_or text at 0 ≡ 44 → ⊥) where
-    pub ending_lf : get_or text at 0 ≡ 10 → ended false 1 ≡ ending_of (drop at text)
-    unfolding ending_of
-    ending_lf e = rw (drop-cons text at 0 h, ne_eqb (get_or text at 0) 44 a, eq-eqb (get_or text at 0) 10 e)
-
-    module _ (b : get_or text at 0 ≡ 10 → ⊥) where
-      next_byte : get_or (drop (suc at) text) 0 0 ≡ get_or text (at + 1) 0
-      next_byte = get_or-drop (suc at) text 0 0 ∙ ap (λ (n : ℕ). get_or text n 0) (omega arith)
-
-      pub ending_cr_lf : get_or text at 0 ≡ 13 → get_or text (at + 1) 0 ≡ 10 → ended false 2 ≡ ending_of (drop at text)
-      unfolding ending_of
-      ending_cr_lf e f =
-          rw (drop-cons text at 0 h, ne_eqb (get_or text at 0) 44 a, ne_eqb (get_or text at 0) 10 b, eq-eqb (get_or text at 0) 13 e, next_byte, eq-eqb (get_or text (at + 1) 0) 10 f)
-
-      pub ending_cr : get_or text at 0 ≡ 13 → (get_or text (at + 1) 0 ≡ 10 → ⊥) → broken ≡ ending_of (drop at text)
-      unfolding ending_of
-      ending_cr e f =
-          rw (drop-cons text at 0 h, ne_eqb (get_or text at 0) 44 a, ne_eqb (get_or text at 0) 10 b, eq-eqb (get_or text at 0) 13 e, next_byte, ne_eqb (get_or text (at + 1) 0) 10 f)
-
-      pub ending_other : (get_or text at 0 ≡ 13 → ⊥) → broken ≡ ending_of (drop at text)
-      unfolding ending_of
-      ending_other e = rw (drop-cons text at 0 h, ne_eqb (get_or text at 0) 44 a, ne_eqb (get_or text at 0) 10 b, ne_eqb (get_or text at 0) 13 e)
 
 -- an end takes no more bytes than there are
 pub width_within : (t : List ℕ) → (ending_of t).width ≤ length t
@@ -174,14 +192,26 @@ width_within (b ∷ t) = go (eqb b 44) (eqb b 10) (eqb b 13) (eqb (get_or t 0 0)
     go false false false s k = omega arith
 
 -- the place after an end is a place of the machine
-pub width_fits : (text : List ℕ) (at : ℕ) (e : Ending) → e ≡ ending_of (drop at text) → at < 2 ^ 64 → length text < 2 ^ 64 → at + e.width < 2 ^ 64
-width_fits text at e k h j =
-    let w : e.width ≤ length text - at = rw (k, ← length-drop at text) (width_within (drop at text)) in
-    omega arith
+pub width_fits : (text : List ℕ) (at : ℕ) (d : Ending) → ending_answer (ending_of (drop at text)) ≡ Some d → at < 2 ^ 64 → length text < 2 ^ 64 → at + d.width < 2 ^ 64
+width_fits text at d k = front_fits text at d.width (of_answer (ending_of (drop at text)) (width_within (drop at text)) k)
+  where
+    of_answer : (e : EndFound) → e.width ≤ length (drop at text) → ending_answer e ≡ Some d → d.width ≤ length (drop at text)
+    of_answer e h q = go e.sound q
+      where
+        go : (s : Bool) → cond s (Some (record { more = e.more; width = e.width })) None ≡ Some d → d.width ≤ length (drop at text)
+        go true r = let same : e.width ≡ d.width = cc in omega arith
+        go false r = absurd cc
 
 -- ---- a field by its places
 
-placed_moved : (at f t n : ℕ) (e : Ending) → placed at (at + f) (at + t) (at + n) e ≡ moved at (field_of f t n e)
+-- a field that starts at a place of the text and whose end at another place is `ending`
+unfoldable placed : (start from to at : ℕ) → EndFound → FieldFound
+placed start from to at ending =
+    cond ending.sound
+    (record { sound = true; more = ending.more; from = from; to = to; next = at + ending.width })
+    (record { sound = false; more = false; from = start; to = start; next = start })
+
+placed_moved : (at f t n : ℕ) (e : EndFound) → placed at (at + f) (at + t) (at + n) e ≡ moved at (field_of f t n e)
 unfolding placed field_of
 placed_moved at f t n e = go e.sound
   where
@@ -192,16 +222,33 @@ placed_moved at f t n e = go e.sound
     go true = ap (λ (k : ℕ). record { sound = true; more = e.more; from = at + f; to = at + t; next = k }) (add_assoc at n e.width)
     go false = ap (λ (k : ℕ). record { sound = false; more = false; from = k; to = k; next = k }) (sym (add-zero at))
 
--- a bare field, from what the scanner's functions find of it
-pub bare_found : (text : List ℕ) (at to : ℕ) (e : Ending) (r : Field)
-    → to ≡ at + plain_length (drop at text) → e ≡ ending_of (drop to text) → r ≡ placed at at to to e → r ≡ moved at (bare_field (drop at text))
-unfolding bare_field
-bare_found text at to e r p q k =
-    let n = plain_length (drop at text) in
-    let same : e ≡ ending_of (drop n (drop at text)) = rw (drop-drop n at text, ← p) q in
-    k ∙ rw (p, same) (let here = add-zero at in rw here at (placed_moved at 0 n n (ending_of (drop n (drop at text)))))
+-- the field that an end closes
+abbrev pub closed : (from to at : ℕ) → Ending → Field
+closed from to at d = record { more = d.more; from = from; to = to; next = at + d.width }
 
--- a field in quotes
+answered : (start from to at : ℕ) (e : EndFound) → field_answer (placed start from to at e) ≡ option_map (closed from to at) (ending_answer e)
+unfolding placed
+answered start from to at e = go e.sound
+  where
+    go : (s : Bool) → field_answer (cond s (record { sound = true; more = e.more; from = from; to = to; next = at + e.width })
+        (record { sound = false; more = false; from = start; to = start; next = start }))
+        ≡ option_map (closed from to at) (cond s (Some (record { more = e.more; width = e.width })) None)
+    go true = refl
+    go false = refl
+
+-- a bare field, from where its plain bytes end
+pub bare_found : (text : List ℕ) (at to : ℕ) → to ≡ at + plain_length (drop at text)
+    → field_answer (moved at (bare_field (drop at text))) ≡ option_map (closed at to to) (ending_answer (ending_of (drop to text)))
+unfolding bare_field
+bare_found text at to p =
+    let n = plain_length (drop at text) in
+    let same : ending_of (drop n (drop at text)) ≡ ending_of (drop to text) = rw (drop-drop n at text, ← p) in
+    let here = add-zero at in
+    let all : field_answer (moved at (field_of 0 n n (ending_of (drop n (drop at text))))) ≡ option_map (closed (at + 0) (at + n) (at + n)) (ending_answer (ending_of (drop n (drop at text)))) =
+    sym (ap field_answer (placed_moved at 0 n n (ending_of (drop n (drop at text))))) ∙ answered at (at + 0) (at + n) (at + n) (ending_of (drop n (drop at text))) in
+    all ∙ rw (same, here, ← p)
+
+-- a field in quotes, from where they end
 module _ (text : List ℕ) (at to : ℕ) (p : to ≡ (at + 1) + quoted_length (drop (at + 1) text)) where
   abbrev inside : ℕ
   inside = quoted_length (drop 1 (drop at text))
@@ -212,14 +259,17 @@ module _ (text : List ℕ) (at to : ℕ) (p : to ≡ (at + 1) + quoted_length (d
   close_byte : get_or (drop at text) (inside + 1) 0 ≡ get_or text to 0
   close_byte = rw (to_is) (get_or-drop at text (inside + 1) 0)
 
-  pub quoted_open : (get_or text to 0 ≡ 34 → ⊥) → record { sound = false; more = false; from = at; to = at; next = at } ≡ moved at (quoted_field (drop at text))
+  pub quoted_open : (get_or text to 0 ≡ 34 → ⊥) → field_answer (moved at (quoted_field (drop at text))) ≡ None
   unfolding quoted_field field_of
-  quoted_open n = rw (close_byte, ne_eqb (get_or text to 0) 34 n) (ap (λ (k : ℕ). record { sound = false; more = false; from = k; to = k; next = k }) (sym (add-zero at)))
+  quoted_open n = rw (close_byte, ne_eqb (get_or text to 0) 34 n)
 
-  pub quoted_found : (e : Ending) (r : Field) → get_or text to 0 ≡ 34 → e ≡ ending_of (drop (to + 1) text) → r ≡ placed at (at + 1) to (to + 1) e
-      → r ≡ moved at (quoted_field (drop at text))
+  pub quoted_found : get_or text to 0 ≡ 34
+      → field_answer (moved at (quoted_field (drop at text))) ≡ option_map (closed (at + 1) to (to + 1)) (ending_answer (ending_of (drop (to + 1) text)))
   unfolding quoted_field
-  quoted_found e r c q k =
+  quoted_found c =
       let past : to + 1 ≡ at + (inside + 2) = let t = to_is in omega arith in
-      let same : e ≡ ending_of (drop (inside + 2) (drop at text)) = rw (drop-drop (inside + 2) at text, ← past) q in
-      k ∙ rw (close_byte, eq-eqb (get_or text to 0) 34 c, past, to_is, same) (placed_moved at 1 (inside + 1) (inside + 2) (ending_of (drop (inside + 2) (drop at text))))
+      let same : ending_of (drop (inside + 2) (drop at text)) ≡ ending_of (drop (to + 1) text) = rw (drop-drop (inside + 2) at text, ← past) in
+      let end : EndFound = ending_of (drop (inside + 2) (drop at text)) in
+      let all : field_answer (moved at (field_of 1 (inside + 1) (inside + 2) end)) ≡ option_map (closed (at + 1) (at + (inside + 1)) (at + (inside + 2))) (ending_answer end) =
+      sym (ap field_answer (placed_moved at 1 (inside + 1) (inside + 2) end)) ∙ answered at (at + 1) (at + (inside + 1)) (at + (inside + 2)) end in
+      rw (close_byte, eq-eqb (get_or text to 0) 34 c) (all ∙ rw (same, ← past, ← to_is))

@@ -12,7 +12,7 @@ unfolding field
 returns-then-byte_at-eq34 c = let a = c.args in
     rw (quote_first a.text.now a.at (sym c.byte_at.ensures ∙ c.if-byte_at-eq34.true)) c.quoted_field.ensures
 
-pub returns : goal.returns
+pub returns-else-byte_at-eq34 : goal.returns-else-byte_at-eq34
 unfolding field
-returns c = let a = c.args in
+returns-else-byte_at-eq34 c = let a = c.args in
     rw (other_first a.text.now a.at (λ e. c.if-byte_at-eq34.false (c.byte_at.ensures ∙ e))) c.bare_field.ensures

@@ -1,15 +1,9 @@
--- `sheet_fields::quoted_step` meets its contract: each way through the tests is a case of the definition. Assumes nothing.
-use mathlib.Core.Path.{sym, ◌∙◌}
-use Rattle.sheet_fields.proofs.Scanning.{step_one, step_two, step_none}
+-- `sheet_fields::quoted_step` meets its contract: a quote at the very end has none behind it. Assumes nothing.
+use Rattle.std.proofs.Common.{arith}
+use Rattle.std.proofs.lemmas.Bool.Decides.{nat_tests}
+use lib.ListN.{get_or-eq_default}
+use Rattle.sheet_fields.proofs.Scanning.{step_by}
 use Rattle.sheet_fields.proofs.quoted_step.Goals as goal
 
-pub returns-then-text-at-ne34 : goal.returns-then-text-at-ne34
-returns-then-text-at-ne34 c = let a = c.args in step_one a.text.now a.at c.if-text-at-ne34.true
-
-pub returns-then-byte_at-eq34 : goal.returns-then-byte_at-eq34
-returns-then-byte_at-eq34 c = let a = c.args in
-    step_two a.text.now a.at c.if-text-at-ne34.false (sym c.byte_at.ensures ∙ c.if-byte_at-eq34.true)
-
-pub returns : goal.returns
-returns c = let a = c.args in
-    step_none a.text.now a.at c.if-text-at-ne34.false (λ e. c.if-byte_at-eq34.false (c.byte_at.ensures ∙ e))
+pub returns-in-34-2 : goal.returns-in-34-2
+returns-in-34-2 c = let past = get_or-eq_default c.args.rest.now 0 {n = 1} (omega arith) in grind (arith, nat_tests, step_by)
