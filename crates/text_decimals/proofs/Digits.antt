@@ -1,10 +1,9 @@
 -- The search for a decimal's point, and the turns of the loop over its digits. Assumes nothing.
-use Rattle.std.proofs.Common.{◌≡◌, ℕ, suc, ◌+◌, ◌*◌, ◌^◌, ◌<◌, ◌≤◌, Bool, true, false, cond, ◌&&◌, eqb, ltb, List, [], ◌∷◌, length, get_or, drop, sym, refl, ap, ◌∙◌, zero-le, zero-add, add-one, arith, lit<, drop_of_length-le, drop-cons, le-ltb, lt-ltb}
+use Rattle.std.proofs.Common.{◌≡◌, ℕ, suc, ◌+◌, ◌*◌, ◌^◌, ◌<◌, ◌≤◌, Bool, true, false, cond, ◌&&◌, eqb, ltb, List, [], ◌∷◌, length, get_or, drop, sym, refl, ap, ◌∙◌, zero-le, zero-add, add-one, arith, lit<, drop_of_length-le, drop-cons, le-ltb, lt-ltb, Some, None}
 use Rattle.std.specs.Option.{unwrap_or}
 use Rattle.text_search.specs.Search.{place_in, index_after, index_of}
 use Rattle.text_search.proofs.Searching.{place_or_end}
 use Rattle.text_digits.specs.Digits.{digit, all_digits, worth}
-use Rattle.text_digits.specs.declared.kinds.Number.{Number}
 use Rattle.units.proofs.Tests.{and_false}
 use Rattle.text_digits.proofs.Worth.{worth_grows}
 use Rattle.text_decimals.specs.Decimals.{whole_length, are_few, digits_after}
@@ -36,7 +35,7 @@ pub read_starts : (n : ℕ) (digits : List ℕ) → n < 10 ^ 15 → Read n digit
 read_starts n digits h = record { all = refl; sum = refl; few = h }
 
 module _ (n : ℕ) (digits : List ℕ) (w i : ℕ) (s : Read n digits w i) where
-  pub read_ends : length digits ≤ i → Number.Of w ≡ digits_after n digits
+  pub read_ends : length digits ≤ i → Some w ≡ digits_after n digits
   unfolding digits_after are_few all_digits worth
   read_ends h =
       let none = drop_of_length-le digits h in
@@ -53,13 +52,13 @@ module _ (n : ℕ) (digits : List ℕ) (w i : ℕ) (s : Read n digits w i) where
     unfolding worth
     sum_here = rw (drop-cons digits i 0 h, e, add-one)
 
-    pub read_stops : 10 ≤ d → Number.Unreadable ≡ digits_after n digits
+    pub read_stops : 10 ≤ d → None ≡ digits_after n digits
     unfolding digits_after are_few
     read_stops k =
         let some : all_digits 10 digits ≡ false = sym s.all ∙ all_here ∙ rw (le-ltb d 10 k) refl in
         rw some
 
-    pub read_passes : 10 ^ 15 ≤ w * 10 + d → Number.Unreadable ≡ digits_after n digits
+    pub read_passes : 10 ^ 15 ≤ w * 10 + d → None ≡ digits_after n digits
     unfolding digits_after are_few
     read_passes k =
         let more = worth_grows 10 (lit< tt) (w * 10 + d) (drop (i + 1) digits) in

@@ -7,13 +7,16 @@ ghost use Rattle.std.specs.Prelude.{◌≡◌, suc, ◌-◌, ◌^◌, ◌<◌, �
 ghost use Rattle.units.specs.Decimals.{decimal as decimals_decimal};
 ghost use Rattle.text_decimals.specs.Decimals.{whole_length, is_formed, digits_after, over_ten, signed_of, decimal_of, is_minus_infinity, logarithm_of};
 
-use text_digits::{FloatValue, Number};
+use text_digits::digit;
 use text_fronts::byte_at;
 
 const POWERS_OF_TEN: [f64; 23] = [
     1.0, 1e1, 1e2, 1e3, 1e4, 1e5, 1e6, 1e7, 1e8, 1e9, 1e10, 1e11, 1e12, 1e13, 1e14, 1e15, 1e16,
     1e17, 1e18, 1e19, 1e20, 1e21, 1e22,
 ];
+
+// Digits that are worth less are a float as they stand.
+const TEN_TO_15: u64 = 1000000000000000;
 
 // n / 10^k, rounded once.
 fn quotient(n: u64, k: usize) -> f64
@@ -43,54 +46,34 @@ fn whole_length(text: &[u8]) -> usize
 }
 
 // What digits are worth after others that are worth n, where that is less than 10^15.
-fn digits_after(n: u64, digits: &[u8]) -> Number
+fn digits_after(n: u64, digits: &[u8]) -> Option<u64>
     requires { n < 10 ^ 15 }
     ensures { result ≡ digits_after n digits.now }
 {
     let mut worth = n;
-    let mut i = 0;
-    while i < digits.len() {
-        let d = text_digits::digit(digits[i]);
+    for &b in digits {
+        let d = digit(b)?;
         if 10 <= d {
-            return Number::Unreadable;
+            return None;
         }
         worth = worth * 10 + d;
-        if 1000000000000000 <= worth {
-            return Number::Unreadable;
+        if TEN_TO_15 <= worth {
+            return None;
         }
-        i += 1;
     }
-    Number::Of(worth)
-}
-
-// The digits before the point.
-fn whole_digits(text: &[u8], point: usize) -> Number
-    requires { point ≤ length text.now }
-    ensures { result ≡ digits_after 0 (take point text.now) }
-{
-    digits_after(0, &text[..point])
-}
-
-// The digits from a place on, after others that are worth n.
-fn digits_from(n: u64, text: &[u8], from: usize) -> Number
-    requires { (n < 10 ^ 15) × (from ≤ length text.now) }
-    ensures { result ≡ digits_after n (drop from text.now) }
-{
-    digits_after(n, &text[from..])
+    Some(worth)
 }
 
 // All digits of a number, those before its point and those after it.
-fn all_digits(text: &[u8], point: usize) -> Number
+fn all_digits(text: &[u8], point: usize) -> Option<u64>
     requires { point ≤ length text.now }
     ensures { result ≡ digits_after 0 (take point text.now ++ drop (suc point) text.now) }
 {
     if point == text.len() {
         return digits_after(0, text);
     }
-    match whole_digits(text, point) {
-        Number::Of(n) => digits_from(n, text, point + 1),
-        Number::Unreadable => Number::Unreadable,
-    }
+    let n = digits_after(0, &text[..point])?;
+    digits_after(n, &text[point + 1..])
 }
 
 // How many bytes stand after the point, none where there is no point.
@@ -111,72 +94,56 @@ fn is_formed(text: &[u8], point: usize) -> bool
 }
 
 // A number of digits over a power of ten, with its sign, rounded once.
-fn over_ten(negative: bool, digits: Number, places: usize) -> FloatValue
+fn over_ten(negative: bool, digits: Option<u64>, places: usize) -> Option<f64>
     requires { places ≤ 22 }
     ensures { result ≡ over_ten negative digits places }
 {
-    match digits {
-        Number::Of(n) => {
-            if 1000000000000000 <= n {
-                return FloatValue::Unreadable;
-            }
-            FloatValue::Of(ratio(negative, n, places))
-        }
-        Number::Unreadable => FloatValue::Unreadable,
+    let n = digits?;
+    if TEN_TO_15 <= n {
+        return None;
     }
+    Some(ratio(negative, n, places))
 }
 
 // A number without its sign.
-fn signed(negative: bool, text: &[u8]) -> FloatValue
+fn signed(negative: bool, text: &[u8]) -> Option<f64>
     ensures { result ≡ signed_of negative text.now }
 {
     let point = whole_length(text);
     if !is_formed(text, point) {
-        return FloatValue::Unreadable;
+        return None;
     }
     let places = places_after(text.len(), point);
     if 22 < places {
-        return FloatValue::Unreadable;
+        return None;
     }
     over_ten(negative, all_digits(text, point), places)
 }
 
-fn after_the_sign(text: &[u8]) -> FloatValue
-    requires { 1 ≤ length text.now }
-    ensures { result ≡ signed_of true (drop 1 text.now) }
-{
-    signed(true, &text[1..])
-}
-
 // A decimal: at most 15 digits from the first that is not 0 on, at most 22 after the point, a minus in front where it is negative.
-pub fn decimal(text: &[u8]) -> FloatValue
+pub fn decimal(text: &[u8]) -> Option<f64>
     ensures { result ≡ decimal_of text.now }
 {
-    if text.len() == 0 {
-        return FloatValue::Unreadable;
+    match text {
+        [] => None,
+        [b'-', unsigned @ ..] => signed(true, unsigned),
+        _ => signed(false, text),
     }
-    if text[0] == b'-' {
-        return after_the_sign(text);
-    }
-    signed(false, text)
 }
 
 // Whether a text is `-inf`.
 fn is_minus_infinity(text: &[u8]) -> bool
     ensures { result ≡ is_minus_infinity text.now }
 {
-    (text.len() == 4)
-        & ((byte_at(text, 0) == b'-')
-            & ((byte_at(text, 1) == b'i')
-                & ((byte_at(text, 2) == b'n') & (byte_at(text, 3) == b'f'))))
+    text == b"-inf".as_slice()
 }
 
 // A logarithm of a concentration: a decimal, or `-inf` for a strand that is not there.
-pub fn logarithm(text: &[u8]) -> FloatValue
+pub fn logarithm(text: &[u8]) -> Option<f64>
     ensures { result ≡ logarithm_of text.now }
 {
     if is_minus_infinity(text) {
-        return FloatValue::Of(-1.0 / 0.0);
+        return Some(f64::NEG_INFINITY);
     }
     decimal(text)
 }

@@ -1,7 +1,8 @@
 -- `text_decimals::is_minus_infinity` meets its contract. Assumes nothing.
-use Rattle.text_decimals.specs.Decimals.{is_minus_infinity}
+use Rattle.std.proofs.Common.{ap, ◌∙◌, eqb}
+use Rattle.text_decimals.proofs.Parts.{minus_infinity_is}
+use lib.Pointwise.{pointwise}
 use Rattle.text_decimals.proofs.is_minus_infinity.Goals as goal
 
 pub returns : goal.returns
-unfolding is_minus_infinity
-returns c = cc
+returns c = c.eq.ensures ∙ ap (λ s. pointwise eqb c.args.text.now s) c.as_slice.ensures ∙ minus_infinity_is c.args.text.now
