@@ -4,10 +4,12 @@
 ghost use Rattle.std.specs.Prelude.{◌≡◌, ◌&&◌, ltb};
 ghost use Rattle.units.specs.Limits.{most_strands};
 ghost use Rattle.sets.specs.Set.{word};
+ghost use Rattle.bay_system.specs.System.{system_of};
 ghost use Rattle.bay_binding.specs.Binding.{is_bond, binds, may_lie};
 
-use bay_glues::BOTTOM_GLUE_INDEX;
-use units::BaseEnergy;
+use bay_glues::{BOTTOM_GLUE_INDEX, cell, strand_glues_of};
+use bay_system::System;
+use units::{BaseEnergy, MOST_STRANDS};
 
 // Whether a cell has a ΔG or a ΔS different from zero.
 fn is_bond(energy: BaseEnergy) -> bool
@@ -17,58 +19,28 @@ fn is_bond(energy: BaseEnergy) -> bool
 }
 
 // Whether a strand's bottom glue binds a glue.
-pub fn binds(
-    glues: usize,
-    strand_glues: &[u32],
-    delta_g: &[f64],
-    entropy: &[f64],
-    glue: u32,
-    strand: usize,
-) -> bool
-    ensures { result ≡ binds strand_glues.now delta_g.now entropy.now glues glue strand }
+pub fn binds(system: &System<'_>, glue: u32, strand: usize) -> bool
+    ensures { result ≡ binds (system_of system.now) glue strand }
 {
-    let own = bay_glues::strand_glues_of(strand_glues, strand);
-    is_bond(bay_glues::cell(delta_g, entropy, glues, glue, own.glues[BOTTOM_GLUE_INDEX]))
+    let own = strand_glues_of(system, strand);
+    is_bond(cell(system, glue, own.glues[BOTTOM_GLUE_INDEX]))
 }
 
 // Whether a number is a strand's that may lie on an unseeded bay with this glue.
-fn may_lie(
-    strands: usize,
-    glues: usize,
-    strand_glues: &[u32],
-    delta_g: &[f64],
-    entropy: &[f64],
-    glue: u32,
-    strand: usize,
-) -> bool
-    ensures { result ≡ ltb strand strands && may_lie strand_glues.now delta_g.now entropy.now glues glue strand }
+fn may_lie(system: &System<'_>, glue: u32, strand: usize) -> bool
+    ensures { let s = system_of system.now in result ≡ ltb strand s.sizes.strands && may_lie s glue strand }
 {
-    if strands <= strand {
-        return false;
-    }
-    if strand == 0 {
-        return true;
-    }
-    binds(glues, strand_glues, delta_g, entropy, glue, strand)
+    strand < system.sizes.strands && (strand == 0 || binds(system, glue, strand))
 }
 
 // The strands that may lie on an unseeded bay with this glue.
-pub fn friends_btm(
-    strands: usize,
-    glues: usize,
-    strand_glues: &[u32],
-    delta_g: &[f64],
-    entropy: &[f64],
-    glue: u32,
-) -> u64
-    ensures { result ≡ word (λ t. ltb t strands && may_lie strand_glues.now delta_g.now entropy.now glues glue t) most_strands }
+pub fn friends_btm(system: &System<'_>, glue: u32) -> u64
+    ensures { let s = system_of system.now in
+        result ≡ word (λ t. ltb t s.sizes.strands && may_lie s glue t) most_strands }
 {
     let mut set = sets::empty();
-    let mut t = 0;
-    while t < units::MOST_STRANDS {
-        let legal = may_lie(strands, glues, strand_glues, delta_g, entropy, glue, t);
-        set = sets::with_if(set, t as u32, legal);
-        t += 1;
+    for t in 0..MOST_STRANDS {
+        set = sets::with_if(set, t as u32, may_lie(system, glue, t));
     }
     set
 }
