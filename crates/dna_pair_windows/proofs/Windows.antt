@@ -1,45 +1,27 @@
--- How the sum over the windows grows by one window, in the code's numbers. Assumes nothing.
-use Prim.Native.Nat.{ℕ, zero, suc, ◌+◌, ◌-◌, ◌≤◌}
-use mathlib.Core.Path.{◌≡◌, refl}
-use mathlib.Core.Bool.{Bool, true, false, cond}
+-- How the sum over the windows grows by one window, and that it stays where it ended. Assumes nothing.
+use Prim.Native.Nat.{ℕ, zero, suc, ◌+◌, ◌-◌, ◌<◌, ◌≤◌}
+use mathlib.Core.Path.{◌≡◌}
 use mathlib.Core.List.{List}
-use native.Mathlib.Nat.{le_trans}
-use native.Mathlib.Numerals.{add-one}
+use native.Mathlib.Nat.{add-zero, add-suc}
+use native.Mathlib.Numerals.{sub-one}
 use native.Mathlib.Omega.{arith}
-use lib.Dec.{ltb}
-use Rattle.units.specs.declared.BaseEnergy.{BaseEnergy}
-use Rattle.dna_letters.specs.declared.DnaNucleotideBase.{DnaNucleotideBase}
-use Rattle.dna_loops.specs.declared.LoopPenalty.{LoopPenalty}
-use Rattle.dna_loops.specs.declared.LoopPenalty.TheVariants.{Value, NoValue}
+use Rattle.std.specs.Prelude.{Ok, Err}
+use Rattle.units.specs.declared.refusal.Refusal.{Refusal}
 use Rattle.dna_pair_windows.specs.declared.PairSum.{PairSum}
-use Rattle.dna_pair_windows.specs.declared.PairSum.TheVariants.{Going, NoLoopValue}
-use Rattle.dna_letters.specs.Bases.{base_at}
-use Rattle.dna_steps.specs.Steps.{dg_ds}
-use Rattle.dna_loops.specs.Loops.{loop_penalty}
-use Rattle.dna_pair_windows.specs.Windows.{closed_by, both_match, after_window, bad_in, windows_sum}
+use Rattle.dna_pair_windows.specs.Windows.{after_window, window_at, windows_sum}
 
-pub windows_more : (a b : List ℕ) (i : ℕ)
-    → windows_sum a b (i + 1) ≡ after_window (windows_sum a b i) (base_at a i) (base_at a (i + 1)) (base_at b i) (base_at b (i + 1))
+pub windows_more : (a b : List ℕ) (i : ℕ) (sum : PairSum) → 0 < i → windows_sum a b (i - 1) ≡ Ok sum → windows_sum a b i ≡ after_window sum (window_at a b (i - 1))
 unfolding windows_sum
-windows_more a b i = rw (add-one i)
+windows_more a b zero sum h e = absurd (omega arith)
+windows_more a b (suc n) sum h e = rw (sub-one (suc n)) (rw (rw (sub-one (suc n)) at e))
 
--- a window adds at most one to the bad windows that came last
-closed_none : (sum step : BaseEnergy) (n : ℕ) (p : LoopPenalty) → bad_in (closed_by sum step n p) ≡ 0
-closed_none sum step n (Value x) = refl
-closed_none sum step n NoValue = refl
-
-picked : (t u : Bool) (x y z : PairSum) (n : ℕ) → bad_in x ≡ 0 → bad_in y ≡ 0 → bad_in z ≤ n → bad_in (cond t (cond u x y) z) ≤ n
-picked true true x y z n p q h = omega arith
-picked true false x y z n p q h = omega arith
-picked false u x y z n p q h = h
-
-one_more : (sum : PairSum) (a1 a2 b1 b2 : DnaNucleotideBase) → bad_in (after_window sum a1 a2 b1 b2) ≤ bad_in sum + 1
-one_more (Going sum bad) a1 a2 b1 b2 =
-    let closed = closed_none sum (dg_ds a1 a2) (bad - 1) (loop_penalty (bad - 1)) in
-    picked (both_match a1 a2 b1 b2) (ltb 2 bad) _ _ _ (bad + 1) closed refl (omega arith)
-one_more (NoLoopValue n) a1 a2 b1 b2 = omega arith
-
-pub bad_at_most : (a b : List ℕ) (n : ℕ) → bad_in (windows_sum a b n) ≤ n
+stays : (a b : List ℕ) (i k : ℕ) (refusal : Refusal) → windows_sum a b i ≡ Err refusal → windows_sum a b (i + k) ≡ Err refusal
 unfolding windows_sum
-bad_at_most a b zero = omega arith
-bad_at_most a b (suc n) = le_trans (one_more (windows_sum a b n) _ _ _ _) (omega (arith, bad_at_most a b n))
+stays a b i zero refusal e = rw (add-zero i) e
+stays a b i (suc k) refusal e = rw (add-suc i k, stays a b i k refusal e)
+
+-- the whole sum, where it ended at an earlier window
+pub ended : (a b : List ℕ) (i n : ℕ) (refusal : Refusal) → i ≤ n → windows_sum a b i ≡ Err refusal → windows_sum a b n ≡ Err refusal
+ended a b i n refusal h e =
+    let whole : i + (n - i) ≡ n = omega arith in
+    rw (← whole) (stays a b i (n - i) refusal e)
