@@ -1,6 +1,7 @@
 -- What is refused of each seed that is given by name. Assumes nothing.
-use Rattle.std.specs.Prelude.{ℕ, ◌+◌, ◌*◌, not, ◌&&◌, List, [], ◌∷◌, ltb, get_or}
+use Rattle.std.specs.Prelude.{ℕ, ◌+◌, ◌*◌, not, ◌&&◌, List, ltb, get_or}
 use Rattle.units.specs.Refusals.{Verdict, refuse_if, ◌▷◌}
+use Rattle.units.specs.declared.refusal.Refusal.TheVariants.{Seed, UnknownSeed}
 use Rattle.text_entries.specs.Entries.{entry_of}
 use Rattle.text_entries.specs.InOrder.{each_from}
 use Rattle.name_strands.specs.Names.{StrandNames}
@@ -19,11 +20,11 @@ seed_name s k = entry_of s.text s.offsets k
 
 -- 4, with the seed's place in the list: its row or its column is off the grid
 abbrev pub seed_off_grid : (rows cols : ℕ) → SeedList → ℕ → Verdict
-seed_off_grid rows cols s k = refuse_if (not (ltb (seed_row s k) rows && ltb (seed_col s k) cols)) 4 (k ∷ [])
+seed_off_grid rows cols s k = refuse_if (not (ltb (seed_row s k) rows && ltb (seed_col s k) cols)) (Seed k)
 
 -- 18, with the seed's place in the list: its name is the shown name of no tile
 abbrev pub seed_unknown : StrandNames → SeedList → ℕ → Verdict
-seed_unknown n s k = refuse_if (not (ltb (seed_strand n (seed_name s k)) (tile_count n))) 18 (k ∷ [])
+seed_unknown n s k = refuse_if (not (ltb (seed_strand n (seed_name s k)) (tile_count n))) (UnknownSeed k)
 
 unfoldable pub seed_verdict : (rows cols : ℕ) → StrandNames → SeedList → ℕ → Verdict
 seed_verdict rows cols n s k = seed_off_grid rows cols s k ▷ seed_unknown n s k
