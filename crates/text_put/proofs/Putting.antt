@@ -8,8 +8,10 @@ use native.Mathlib.Numerals.{add-one}
 use native.Mathlib.Omega.{arith}
 use borrow.Author.Tests.{leb-true, leb-false}
 use lib.Dec.{leb}
-use lib.ListN.{length, get_or, take, drop, set, length-append, length-set, drop_of_length-le}
-use lib.Seq.{paste, paste-zero, paste-suc, length-paste, take-paste, drop-paste, drop-cons, drop-drop, take-length, take-append-add, take-append-le}
+use borrow.Rule.Slice.PartMut.{put_mid}
+use Rattle.std.proofs.lemmas.Slice.{put_mid-paste}
+use lib.ListN.{length, get_or, take, drop, length-append, drop_of_length-le}
+use lib.Seq.{paste, paste-zero, length-paste, take-paste, drop-paste, drop-cons, drop-drop, take-length, take_all, length-take-le, take-append-add, take-append-le}
 use Rattle.text_put.specs.Puts.{written, place_after, Put}
 
 -- no place in the slice: nothing is written
@@ -29,35 +31,21 @@ length_written out at text = go (leb (length out) at) refl
     go true e = ap length (sym (put_nowhere out at text (leb-true (length out) at e)))
     go false e = let h = leb-false (length out) at e in length-paste out at text (min (length text) (length out - at)) (omega arith) (omega arith)
 
--- ---- the copy's turns
+-- ---- the copy
 
--- i bytes of the text have been copied
-pub record Copying (old : List ℕ) (at : ℕ) (text : List ℕ) (room : ℕ) (out : List ℕ) (i : ℕ) : Type 0 where
-  pub within : i ≤ room
-  pub long : length out ≡ length old
-  pub copied : out ≡ paste old at text i
+module _ (old : List ℕ) (at : ℕ) (text : List ℕ) (room : ℕ) (e : room ≡ min (length text) (length old - at)) where
+  pub copied : (part : List ℕ) → part ≡ take room text → put_mid at (at + room - at) old part ≡ written old at text
+  unfolding written
+  copied part same =
+      let fits : room ≤ length text = omega arith in
+      let all : room ≡ length (take room text) = sym (length-take-le room text fits) in
+      let count : room ≡ at + room - at = omega arith in
+      let front : take room (take room text) ≡ take room text = take_all room (take room text) (omega arith) in
+      let pasted : paste old at (take room text) room ≡ paste old at text room = rw front in
+      put_mid-paste at (at + room - at) old part (take room text) room same count all ∙ pasted ∙ ap (paste old at text) e
 
-module _ (old : List ℕ) (at : ℕ) (text : List ℕ) (room : ℕ) (e : room ≡ min (length text) (length old - at)) (h : at < length old) where
-  pub copying_starts : Copying old at text room old 0
-  copying_starts = record { within = omega arith; long = refl; copied = paste-zero old at text }
-
-  module _ (out : List ℕ) (i : ℕ) (s : Copying old at text room out i) where
-    pub copying_goes_on : i < room → Copying old at text room (set out (at + i) (get_or text i 0)) (i + 1)
-    copying_goes_on k =
-        record {
-          within = omega arith;
-          long = simp length-set s.long;
-          copied = rw (s.copied, add-one) (paste-suc old at text i 0 (omega arith) (omega arith));
-        }
-
-    pub copying_ends : room ≤ i → out ≡ written old at text
-    unfolding written
-    copying_ends k =
-        let n : i ≡ min (length text) (length old - at) = let w = s.within in omega arith in
-        s.copied ∙ ap (paste old at text) n
-
-  pub place_copied : at + room ≡ place_after old at text
-  place_copied = omega arith
+  pub place_copied : at < length old → at + room ≡ place_after old at text
+  place_copied h = omega arith
 
 -- ---- one text after the other
 

@@ -2,15 +2,14 @@
 use Prim.Native.Nat.{ℕ, zero, suc, ◌+◌, ◌-◌, ◌/◌, ◌%◌, ◌^◌, ◌≤◌, ◌<◌}
 use mathlib.Core.List.{List, [], ◌∷◌, ◌++◌}
 use mathlib.Core.Bool.{Bool, true, false}
-use mathlib.Core.Path.{◌≡◌, refl, sym, ap, subst⁻¹, ◌∙◌}
+use mathlib.Core.Path.{◌≡◌, refl, ap, subst⁻¹}
 use native.Mathlib.Nat.{pow-suc, pow-le-pow_right}
 use native.Mathlib.Numerals.{sub-one}
 use native.Mathlib.Omega.{arith}
 use borrow.Author.Tests.{lt-ltb, le-ltb, ltb-true, leb-true, leb-false}
 use lib.Dec.{T, leb, lit<, lit≤}
-use lib.Ieee.{Float, nan, inf, fin, binary64, ne, fits, is_nan, to_bits}
+use lib.Ieee.{Float, binary64, fits, is_nan, to_bits}
 use lib.Ieee.Bits.{to_bits-lt}
-use lib.Ieee.Compare.{differs_from_itself, nan_differs}
 use lib.IntN.{ℤ, pos, negsuc, nat_abs}
 use lib.Signed.{lt_z}
 use Rattle.io.specs.Digits.{hex_digit_ascii, last_digits, IsDigitCount}
@@ -73,18 +72,12 @@ text_down (negsuc n) e = refl
 
 -- ---- floats
 
-pub no_nan : (x : Float) → ne x x ≡ false → is_nan x ≡ false
-unfolding is_nan
-no_nan nan e = let same = sym nan_differs ∙ e in let z : ◌≡◌ {A = ℕ} 0 1 = cc in absurd (omega arith)
-no_nan (inf s) e = refl
-no_nan (fin s m d) e = refl
-
-pub float_text_lem : (x : Float) (k : ℕ) → ne x x ≡ false → fits binary64 x ≡ true → IsDigitCount 16 16 (to_bits binary64 x) k → last_digits 16 k (to_bits binary64 x) ≡ float_text x
+pub float_text_lem : (x : Float) (k : ℕ) → is_nan x ≡ false → fits binary64 x ≡ true → IsDigitCount 16 16 (to_bits binary64 x) k → last_digits 16 k (to_bits binary64 x) ≡ float_text x
 unfolding float_text
 float_text_lem x k e f w =
     let all : k ≡ 16 = let least = w.0 in omega (arith, at_most 16 16 (to_bits binary64 x) k 16 (lit< tt) w (lit≤ tt) (to_bits-lt binary64 x (subst⁻¹ T f tt))) in
-    rw (no_nan x e, all)
+    rw (e, all)
 
-pub nan_text : (x : Float) → ne x x ≡ true → 110 ∷ 97 ∷ 110 ∷ [] ≡ float_text x
-unfolding float_text is_nan
-nan_text x e = rw (differs_from_itself x (subst⁻¹ T e tt))
+pub nan_text : (x : Float) → is_nan x ≡ true → 110 ∷ 97 ∷ 110 ∷ [] ≡ float_text x
+unfolding float_text
+nan_text x e = rw e

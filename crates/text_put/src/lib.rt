@@ -5,11 +5,9 @@
 // the other, or as much of their front as has room.
 #![tactic(auto)]
 
-ghost use Rattle.std.specs.Prelude.{◌≡◌, cond, nat_abs};
+ghost use Rattle.std.specs.Prelude.{◌≡◌, cond};
 ghost use Rattle.text_put.specs.Puts.{Put, number_text, signed_text, float_text};
 ghost use Rattle.text_put.specs.Forms.{filled_byte, filled};
-
-use text_fronts::least;
 
 // Puts the bytes of `text`.
 pub fn put_text(out: &mut [u8], at: usize, text: &[u8]) -> usize
@@ -18,12 +16,8 @@ pub fn put_text(out: &mut [u8], at: usize, text: &[u8]) -> usize
     if out.len() <= at {
         return out.len();
     }
-    let room = least(text.len(), out.len() - at);
-    let mut i = 0;
-    while i < room {
-        out[at + i] = text[i];
-        i += 1;
-    }
+    let room = text.len().min(out.len() - at);
+    out[at..at + room].copy_from_slice(&text[..room]);
     at + room
 }
 
@@ -42,9 +36,9 @@ pub fn put_signed(out: &mut [u8], at: usize, n: i32) -> usize
 {
     if n < 0 {
         let next = put_text(out, at, b"-");
-        put_number(out, next, size(n))
+        put_number(out, next, u64::from(n.unsigned_abs()))
     } else {
-        put_number(out, at, size(n))
+        put_number(out, at, u64::from(n.unsigned_abs()))
     }
 }
 
@@ -52,35 +46,21 @@ pub fn put_signed(out: &mut [u8], at: usize, n: i32) -> usize
 pub fn put_float(out: &mut [u8], at: usize, x: f64) -> usize
     ensures { Put out.old at (float_text x) result out.new }
 {
-    if x != x {
+    if x.is_nan() {
         return put_text(out, at, b"nan");
     }
     let mut digits = [0u8; 16];
-    let k = io::hex(f64::to_bits(x), 16, &mut digits);
+    let k = io::hex(x.to_bits(), 16, &mut digits);
     put_text(out, at, &digits[..k])
-}
-
-// How far `n` is from 0.
-fn size(n: i32) -> u64
-    ensures { result ≡ nat_abs n }
-{
-    let wide = n as i64;
-    if wide < 0 {
-        (0 - wide) as u64
-    } else {
-        wide as u64
-    }
 }
 
 // Puts a form: a text in which `$` stands for one number and `@` for another.
 pub fn put_form(out: &mut [u8], at: usize, form: &[u8], one: u64, other: u64) -> usize
     ensures { Put out.old at (filled one other form.now) result out.new }
 {
-    let mut next = least(at, out.len());
-    let mut i = 0;
-    while i < form.len() {
-        next = put_sign(out, next, form[i], one, other);
-        i += 1;
+    let mut next = at.min(out.len());
+    for &byte in form {
+        next = put_sign(out, next, byte, one, other);
     }
     next
 }
@@ -89,13 +69,11 @@ pub fn put_form(out: &mut [u8], at: usize, form: &[u8], one: u64, other: u64) ->
 fn put_sign(out: &mut [u8], at: usize, byte: u8, one: u64, other: u64) -> usize
     ensures { Put out.old at (filled_byte one other byte) result out.new }
 {
-    if byte == b'$' {
-        return put_number(out, at, one);
+    match byte {
+        b'$' => put_number(out, at, one),
+        b'@' => put_number(out, at, other),
+        _ => put_text(out, at, &[byte]),
     }
-    if byte == b'@' {
-        return put_number(out, at, other);
-    }
-    put_text(out, at, &[byte])
 }
 
 // One of two texts, by a test.

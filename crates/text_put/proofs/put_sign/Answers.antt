@@ -1,17 +1,18 @@
 -- `text_put::put_sign` meets its contract. Assumes nothing.
+use native.Mathlib.Omega.{arith}
 use borrow.Author.Tests.{eq-eqb, ne_eqb}
 use Rattle.text_put.specs.Forms.{filled_byte}
 use Rattle.text_put.proofs.Putting.{put_as}
 use Rattle.text_put.proofs.put_sign.Goals as goal
 
-pub returns-then-byte-eq36 : goal.returns-then-byte-eq36
+pub returns-in-36 : goal.returns-in-36
 unfolding filled_byte
-returns-then-byte-eq36 c = put_as (rw (eq-eqb _ _ c.if-byte-eq36.true)) c.put_number.ensures
+returns-in-36 c = put_as (rw (eq-eqb _ _ c.in-36.is)) c.put_number.ensures
 
-pub returns-then-byte-eq64 : goal.returns-then-byte-eq64
+pub returns-in-64 : goal.returns-in-64
 unfolding filled_byte
-returns-then-byte-eq64 c = put_as (rw (ne_eqb _ _ c.if-byte-eq36.false, eq-eqb _ _ c.if-byte-eq64.true)) c.put_number-then-byte-eq64.ensures
+returns-in-64 c = put_as (rw (ne_eqb c.args.byte 36 (λ e. omega arith), eq-eqb _ _ c.in-64.is)) c.put_number-in-64.ensures
 
-pub returns : goal.returns
+pub returns-in_default : goal.returns-in_default
 unfolding filled_byte
-returns c = put_as (rw (ne_eqb _ _ c.if-byte-eq36.false, ne_eqb _ _ c.if-byte-eq64.false)) c.put_text.ensures
+returns-in_default c = put_as (rw (ne_eqb c.args.byte 36 (λ e. omega arith), ne_eqb c.args.byte 64 (λ e. omega arith))) c.put_text.ensures

@@ -12,11 +12,12 @@ use Rattle.text_put.proofs.put_signed.Goals as goal
 
 pub returns-then-n-lt0 : goal.returns-then-n-lt0
 returns-then-n-lt0 c = let a = c.args in
-    let first = c.put_text-next in
-    let text = ap (λ (k : ℕ). (45 ∷ []) ++ number_text k) c.size.ensures ∙ text_down (to_z w32 (of_z w32 a.n)) c.if-n-lt0.true ∙ ap signed_text (to_z-of_z c.ranges.n) in
-    put_as text (then_put first.ensures c.put_number.ensures)
+    let size = c.from.ensures ∙ c.unsigned_abs.ensures.value in
+    let text = ap (λ (k : ℕ). (45 ∷ []) ++ number_text k) size ∙ text_down (to_z w32 (of_z w32 a.n)) c.if-n-lt0.true ∙ ap signed_text (to_z-of_z c.ranges.n) in
+    put_as text (then_put c.put_text-next.ensures c.put_number.ensures)
 
 pub returns-else-n-lt0 : goal.returns-else-n-lt0
 returns-else-n-lt0 c = let a = c.args in
-    let text = ap number_text c.size-else-n-lt0.ensures ∙ text_up (to_z w32 (of_z w32 a.n)) c.if-n-lt0.false ∙ ap signed_text (to_z-of_z c.ranges.n) in
+    let size = c.from-else-n-lt0.ensures ∙ c.unsigned_abs-else-n-lt0.ensures.value in
+    let text = ap number_text size ∙ text_up (to_z w32 (of_z w32 a.n)) c.if-n-lt0.false ∙ ap signed_text (to_z-of_z c.ranges.n) in
     put_as text c.put_number-else-n-lt0.ensures
