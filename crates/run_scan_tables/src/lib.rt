@@ -19,11 +19,8 @@ pub fn fill_scan(rows: usize, cols: usize, sets: &[u64], scan: &mut [u64])
     requires cols_in_bounds { (rows * cols ≤ length sets.now) × (rows * cols ≤ length scan.old) }
     ensures { take (rows * cols) scan.new ≡ scan_sets rows cols sets.now }
 {
-    let bays = rows * cols;
-    let mut k = 0;
-    while k < bays {
-        scan[k] = sets[bay_at(rows, cols, k)];
-        k += 1;
+    for (k, set) in scan[..rows * cols].iter_mut().enumerate() {
+        *set = sets[bay_at(rows, cols, k)];
     }
 }
 
@@ -47,9 +44,7 @@ pub fn lay_out(rows: usize, cols: usize, order: &[u32], layout: &mut [u32])
     requires order_len { (length order.now ≡ rows * cols) × (length layout.old ≡ rows * cols) }
     ensures { layout.new ≡ tab (λ bay. get_or order.now (number_at rows cols bay) 0) (rows * cols) }
 {
-    let mut bay = 0;
-    while bay < layout.len() {
-        layout[bay] = order[number_at(rows, cols, bay)];
-        bay += 1;
+    for (bay, strand) in layout.iter_mut().enumerate() {
+        *strand = order[number_at(rows, cols, bay)];
     }
 }
