@@ -6,12 +6,13 @@ use mathlib.Core.Path.{◌≡◌, refl, sym, ap, ◌∙◌}
 use native.Mathlib.Nat.{sub-zero}
 use native.Mathlib.Omega.{arith}
 use borrow.Author.Tests.{eq-eqb, ne_eqb}
+use Rattle.std.specs.Prelude.{Result, Ok, Err}
 use lib.Dec.{eqb}
 use lib.ListN.{length, drop, length-drop}
 use Rattle.sheet_fields.specs.Runs.{past, bytes_in, is_sound, record_fault}
 use Rattle.sheet_fields.proofs.Runs.{past_at}
-use Rattle.sheet_records.specs.Tables.{sound, faulty, table_from, table_check, record_at}
-use Rattle.sheet_records.specs.declared.RecordCheck.{RecordCheck}
+use Rattle.sheet_fields.specs.declared.Place.{Place}
+use Rattle.sheet_records.specs.Tables.{place, table_answer, sound, faulty, table_from, table_check, record_at}
 
 -- the records before `next` are the table's first ones, without a fault
 pub record InTable (width most : ℕ) (text : List ℕ) (next records : ℕ) : Type 0 where
@@ -20,6 +21,9 @@ pub record InTable (width most : ℕ) (text : List ℕ) (next records : ℕ) : T
 
 pub table_starts : (width most : ℕ) (text : List ℕ) → InTable width most text 0 0
 table_starts width most text = record { within = omega arith; left = rw (sub-zero most) refl }
+
+fault_answered : (records field : ℕ) → Err (place (records + 1) field) ≡ table_answer (faulty (records + 1) field)
+fault_answered records field = rw (ne_eqb (records + 1) 0 (λ (z : records + 1 ≡ 0). omega arith))
 
 -- where no bytes are left, the table ends
 over : (width records left : ℕ) (t : List ℕ) → length t ≡ 0 → table_from width records left t ≡ sound records
@@ -38,38 +42,34 @@ module _ (width most : ℕ) (text : List ℕ) (next records : ℕ) (s : InTable 
     bytes : eqb (length here) 0 ≡ false
     bytes = ne_eqb (length here) 0 (let l = length-drop next text in omega arith)
 
-    pub table_too_long : most < records + 1 → faulty (records + 1) 1 ≡ table_check width most text
+    pub table_too_long : most < records + 1 → Err (place (records + 1) 1) ≡ table_answer (table_check width most text)
     unfolding table_from
-    table_too_long k = let none : most - records ≡ 0 = omega arith in sym (s.left ∙ rw (none, bytes))
+    table_too_long k =
+        let none : most - records ≡ 0 = omega arith in fault_answered records 1 ∙ ap table_answer (sym (s.left ∙ rw (none, bytes)))
 
-    module _ (room : records + 1 ≤ most) (r : RecordCheck) (e : r ≡ record_at width text next) where
+    module _ (room : records + 1 ≤ most) where
       step : table_check width most text
           ≡ cond (eqb (record_fault is_sound 1 width here) 0) (table_from width (records + 1) (most - (records + 1)) (past width here)) (faulty (records + 1) (record_fault is_sound 1 width here))
       unfolding table_from
       step = let one_more : most - records ≡ suc (most - (records + 1)) = omega arith in s.left ∙ rw (one_more, bytes)
 
-      pub table_stops : (r.fault ≡ 0 → ⊥) → faulty (records + 1) r.fault ≡ table_check width most text
-      table_stops bad = go (eqb (record_fault is_sound 1 width here) 0) refl
+      pub table_stops : (p : Place) → Err p ≡ record_at (records + 1) width text next → Err p ≡ table_answer (table_check width most text)
+      table_stops p e = go (eqb (record_fault is_sound 1 width here) 0) refl
         where
-          go : (q : Bool) → eqb (record_fault is_sound 1 width here) 0 ≡ q → faulty (records + 1) r.fault ≡ table_check width most text
-          go true k = absurd (bad (ap (λ (d : RecordCheck). d.fault) e ∙ rw k))
-          go false k =
-              let same : r.fault ≡ record_fault is_sound 1 width here = ap (λ (d : RecordCheck). d.fault) e ∙ rw k in
-              rw same (sym (step ∙ rw k))
+          go : (q : Bool) → eqb (record_fault is_sound 1 width here) 0 ≡ q → Err p ≡ table_answer (table_check width most text)
+          go true k = let z : ◌≡◌ {A = Result ℕ Place} (Err p) (Ok (next + bytes_in width here)) = e ∙ rw k in absurd cc
+          go false k = e ∙ rw k (fault_answered records (record_fault is_sound 1 width here) ∙ ap table_answer (sym (step ∙ rw k)))
 
-      pub table_goes_on : r.fault ≡ 0 → InTable width most text r.next (records + 1)
-      table_goes_on none = go (eqb (record_fault is_sound 1 width here) 0) refl
+      pub table_goes_on : (far : ℕ) → Ok far ≡ record_at (records + 1) width text next → InTable width most text far (records + 1)
+      table_goes_on far e = go (eqb (record_fault is_sound 1 width here) 0) refl
         where
-          go : (q : Bool) → eqb (record_fault is_sound 1 width here) 0 ≡ q → InTable width most text r.next (records + 1)
+          go : (q : Bool) → eqb (record_fault is_sound 1 width here) 0 ≡ q → InTable width most text far (records + 1)
           go true k =
-              let far : r.next ≡ next + bytes_in width here = ap (λ (d : RecordCheck). d.next) e ∙ rw k in
-              let rest : drop r.next text ≡ past width here = rw far (past_at width text next) in
+              let z : ◌≡◌ {A = Result ℕ Place} (Ok far) (Ok (next + bytes_in width here)) = e ∙ rw k in
+              let from_here : far ≡ next + bytes_in width here = cc in
+              let rest : drop far text ≡ past width here = rw from_here (past_at width text next) in
               record { within = room; left = step ∙ rw (k, rest) }
-          go false k =
-              let same : r.fault ≡ record_fault is_sound 1 width here = ap (λ (d : RecordCheck). d.fault) e ∙ rw k in
-              let z : ◌≡◌ {A = Bool} true false = sym (eq-eqb (record_fault is_sound 1 width here) 0 (sym same ∙ none)) ∙ k in
-              let y : ◌≡◌ {A = ℕ} 0 1 = cc in
-              absurd (omega arith)
+          go false k = let z : ◌≡◌ {A = Result ℕ Place} (Ok far) (Err (place (records + 1) (record_fault is_sound 1 width here))) = e ∙ rw k in absurd cc
 
 -- ---- how many records are found
 
@@ -91,3 +91,12 @@ found_few width records (suc left) t = go (eqb (length t) 0) (eqb (record_fault 
 -- no more than are allowed
 pub records_few : (width most : ℕ) (t : List ℕ) → (table_check width most t).records ≤ most
 records_few width most t = let h = found_few width 0 most t in omega arith
+
+pub answer_few : (width most : ℕ) (t : List ℕ) (records : ℕ) → Ok records ≡ table_answer (table_check width most t) → records ≤ most
+answer_few width most t records e = go (eqb (table_check width most t).line 0) refl
+  where
+    go : (q : Bool) → eqb (table_check width most t).line 0 ≡ q → records ≤ most
+    go true k = let z : ◌≡◌ {A = Result ℕ Place} (Ok records) (Ok (table_check width most t).records) = e ∙ rw k in
+        let same : records ≡ (table_check width most t).records = cc in
+        rw same (records_few width most t)
+    go false k = let z : ◌≡◌ {A = Result ℕ Place} (Ok records) (Err (place (table_check width most t).line (table_check width most t).field)) = e ∙ rw k in absurd cc

@@ -9,6 +9,7 @@ use lib.Dec.{eqb}
 use lib.ListN.{length, drop}
 use Rattle.units.specs.Limits.{most_side}
 use Rattle.sheet_fields.specs.Fields.{field, after, field_at}
+use Rattle.sheet_fields.specs.Answers.{places}
 use Rattle.sheet_fields.specs.declared.Field.{Field}
 use Rattle.sheet_fields.proofs.Bounds.{after_at}
 use Rattle.sheet_records.specs.Tables.{width_up_to, first_width}
@@ -27,11 +28,13 @@ unfolding first_width
 counting_starts text some = record { few = omega arith; sum = rw (ne_eqb (length text) 0 some) (omega arith) }
 
 module _ (text : List ℕ) (next width : ℕ) (s : Counting text next width) where
-  pub counting_ends : most_side < width → width ≡ first_width text
+  pub counting_ends : most_side < width → most_side + 1 ≡ first_width text
   unfolding width_up_to
-  counting_ends k = let none : most_side + 1 - width ≡ 0 = omega arith in sym (s.sum ∙ rw none (omega arith))
+  counting_ends k =
+      let few = s.few in
+      let none : most_side + 1 - width ≡ 0 = omega arith in sym (s.sum ∙ rw none (omega arith))
 
-  module _ (more : width ≤ most_side) (f : Field) (e : f ≡ field_at text next) where
+  module _ (more : width ≤ most_side) (f : Field) (e : f ≡ places (field_at text next)) where
     abbrev here : List ℕ
     here = drop next text
 

@@ -1,10 +1,18 @@
 -- Sheets of records that all have the same number of fields: their first fault, how many records they have, and their columns. Assumes nothing.
-use Rattle.std.specs.Prelude.{ℕ, zero, suc, ◌+◌, cond, List, [], ◌++◌, eqb, length, drop}
+use Rattle.std.specs.Prelude.{ℕ, zero, suc, ◌+◌, cond, List, [], ◌++◌, eqb, length, drop, Result, Ok, Err}
 use Rattle.units.specs.Limits.{most_side}
 use Rattle.sheet_fields.specs.Fields.{field, after}
 use Rattle.sheet_fields.specs.Runs.{contents, past, bytes_in, is_sound, record_fault}
-use Rattle.sheet_records.specs.declared.RecordCheck.{RecordCheck}
-use Rattle.sheet_records.specs.declared.TableCheck.{TableCheck}
+use Rattle.sheet_fields.specs.declared.Place.{Place}
+
+-- how many records a table has, or no record and the line and the number of its first fault
+pub record TableCheck : Type 0 where
+  pub records : ℕ
+  pub line : ℕ
+  pub field : ℕ
+
+abbrev pub place : (line number : ℕ) → Place
+place line number = record { line = line; field = number }
 
 -- a table of so many records, and one with a fault
 abbrev pub sound : (records : ℕ) → TableCheck
@@ -26,6 +34,10 @@ table_from width records (suc left) t =
 abbrev pub table_check : (width most : ℕ) → List ℕ → TableCheck
 table_check width most t = table_from width 0 most t
 
+-- the same as it is answered: how many records, or the place of the first fault
+abbrev pub table_answer : TableCheck → Result ℕ Place
+table_answer c = cond (eqb c.line 0) (Ok c.records) (Err (place c.line c.field))
+
 -- how many fields the record at the front of a text has, counted no further than so many; a field that is not sound is the last one
 unfoldable pub width_up_to : ℕ → List ℕ → ℕ
 width_up_to zero t = 0
@@ -42,9 +54,9 @@ columns (suc records) width from count t = contents count (past from t) ++ colum
 
 -- ---- what the functions on the way find
 
--- the record at a place: its first fault, and where it has none the place after it
-abbrev pub record_at : (width : ℕ) → List ℕ → ℕ → RecordCheck
-record_at width text at =
+-- the place after the record at a place, which is a line of its sheet, or the place of its first fault
+abbrev pub record_at : (line width : ℕ) → List ℕ → ℕ → Result ℕ Place
+record_at line width text at =
     cond (eqb (record_fault is_sound 1 width (drop at text)) 0)
-    (record { fault = 0; next = at + bytes_in width (drop at text) })
-    (record { fault = record_fault is_sound 1 width (drop at text); next = at })
+    (Ok (at + bytes_in width (drop at text)))
+    (Err (place line (record_fault is_sound 1 width (drop at text))))

@@ -3,104 +3,71 @@
 
 ghost use Rattle.std.specs.Prelude.{◌≡◌, ◌+◌, ◌^◌, ◌<◌, drop};
 ghost use Rattle.sheet_fields.specs.Runs.{bytes_in};
-ghost use Rattle.sheet_records.specs.Tables.{table_check, first_width, record_at};
+ghost use Rattle.sheet_records.specs.Tables.{table_check, table_answer, first_width, record_at};
 
-use sheet_fields::{field_at, field_fault};
+use sheet_fields::{Place, field_at, field_or_empty, goes_on};
 use units::MOST_SIDE;
 
-// How many records a sheet has; or 0, with the line and the number of its first fault, both from 1.
-#[derive(Clone, Copy)]
-pub struct TableCheck {
-    pub records: usize,
-    pub line: usize,
-    pub field: usize,
-}
-
-// A record: the number of its first fault, 0 where it has none, and the place after it.
-#[derive(Clone, Copy)]
-pub(crate) struct RecordCheck {
-    pub(crate) fault: usize,
-    pub(crate) next: usize,
-}
-
-// Tests that every record has exactly `width` sound fields and that there are at most `most` records.
-pub fn check_table(text: &[u8], width: usize, most: usize) -> TableCheck
+// How many records a sheet has that has exactly `width` sound fields in every record and at most `most` records; or the place
+// of its first fault.
+pub fn check_table(text: &[u8], width: usize, most: usize) -> Result<usize, Place>
     requires { (width < 2 ^ 32) × (most < 2 ^ 32) }
-    ensures { result ≡ table_check width most text.now }
+    ensures { result ≡ table_answer (table_check width most text.now) }
 {
     let mut next = 0;
     let mut records = 0;
     while next < text.len() {
         let line = records + 1;
         if most < line {
-            return TableCheck {
-                records: 0,
-                line: line,
-                field: 1,
-            };
+            return Err(Place { line, field: 1 });
         }
-        let check = check_record(text, next, width);
-        if check.fault != 0 {
-            return TableCheck {
-                records: 0,
-                line: line,
-                field: check.fault,
-            };
-        }
-        next = check.next;
+        next = check_record(text, next, line, width)?;
         records = line;
     }
-    TableCheck {
-        records: records,
-        line: 0,
-        field: 0,
-    }
+    Ok(records)
 }
 
-// Tests the record at a place.
-fn check_record(text: &[u8], at: usize, width: usize) -> RecordCheck
+// The place after the record at a place, which is a line of its sheet, or the place of its first fault.
+fn check_record(text: &[u8], at: usize, line: usize, width: usize) -> Result<usize, Place>
     requires { width < 2 ^ 32 }
-    ensures { result ≡ record_at width text.now at }
+    ensures { result ≡ record_at line width text.now at }
 {
     let mut next = at;
-    let mut i = 0;
-    while i < width {
-        let f = field_at(text, next);
+    for i in 0..width {
         let number = i + 1;
-        let fault = field_fault(number, width - number, f.sound, f.more);
-        if fault != 0 {
-            return RecordCheck {
-                fault: fault,
-                next: at,
-            };
+        let Some(found) = field_at(text, next) else {
+            return Err(Place {
+                line,
+                field: number,
+            });
+        };
+        if !goes_on(found.more, width - number) {
+            return Err(Place {
+                line,
+                field: number + 1,
+            });
         }
-        next = f.next;
-        i = number;
+        next = found.next;
     }
-    RecordCheck {
-        fault: 0,
-        next: next,
-    }
+    Ok(next)
 }
 
 // How many fields the first record has, counted no further than one more than a grid has columns.
 pub fn first_width(text: &[u8]) -> usize
     ensures { result ≡ first_width text.now }
 {
-    if text.len() == 0 {
+    if text.is_empty() {
         return 0;
     }
     let mut next = 0;
-    let mut width = 0;
-    while width <= MOST_SIDE {
-        let f = field_at(text, next);
-        width += 1;
-        if !f.more {
-            return width;
+    for width in 0..MOST_SIDE + 1 {
+        let field = field_or_empty(text, next);
+        if !field.more {
+            return width + 1;
         }
-        next = f.next;
+        next = field.next;
     }
-    width
+    MOST_SIDE + 1
 }
 
 // The place after so many fields from a place on.
@@ -108,11 +75,8 @@ pub fn place_after(text: &[u8], at: usize, count: usize) -> usize
     ensures { result ≡ at + bytes_in count (drop at text.now) }
 {
     let mut next = at;
-    let mut i = 0;
-    while i < count {
-        let f = field_at(text, next);
-        next = f.next;
-        i += 1;
+    for _ in 0..count {
+        next = field_or_empty(text, next).next;
     }
     next
 }

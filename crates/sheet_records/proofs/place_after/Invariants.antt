@@ -3,8 +3,8 @@ use Prim.Native.Nat.{◌-◌}
 use Rattle.sheet_fields.proofs.Passing.{Passing}
 use Rattle.sheet_records.proofs.place_after.Given as goal
 
-abbrev pub invariant-loop-i : goal.invariant-loop-i
-invariant-loop-i l = Passing l.count l.text l.at l.next l.i
+abbrev pub invariant-loop : goal.invariant-loop
+invariant-loop l = Passing l.count l.text l.at l.next l.counter
 
-abbrev pub decreases-loop-i : goal.decreases-loop-i
-decreases-loop-i l = l.count - l.i
+abbrev pub decreases-loop : goal.decreases-loop
+decreases-loop l = l.count - l.counter
