@@ -1,11 +1,12 @@
 -- What is refused of two sequences written letter over letter before their windows are gone through. Assumes nothing.
-use Rattle.std.specs.Prelude.{ℕ, not, List, [], eqb, length}
+use Rattle.std.specs.Prelude.{ℕ, not, List, eqb, length}
 use Rattle.units.specs.Refusals.{Verdict, refuse_if, ◌▷◌}
+use Rattle.units.specs.declared.refusal.Refusal.TheVariants.{SequenceLength}
 use Rattle.dna_letters.specs.Letters.{length_verdict, letters_verdict}
 
 -- 13: the two differ in length
 abbrev pub unequal_verdict : List ℕ → List ℕ → Verdict
-unequal_verdict a b = refuse_if (not (eqb (length a) (length b))) 13 []
+unequal_verdict a b = refuse_if (not (eqb (length a) (length b))) SequenceLength
 
 -- letters of the first, letters of the second, unequal lengths
 abbrev pub pair_letters : List ℕ → List ℕ → Verdict
