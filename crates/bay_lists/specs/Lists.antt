@@ -1,22 +1,18 @@
 -- Constraints: a list of strands for each bay, and what a list allows. Assumes nothing.
-use Rattle.std.specs.Prelude.{ℕ, ◌+◌, Bool, true, false, cond, ◌&&◌, ◌||◌, List, [], ◌∷◌, eqb, length, get_or}
+use Rattle.std.specs.Prelude.{ℕ, ◌+◌, Bool, true, false, ◌&&◌, ◌||◌, List, [], ◌∷◌, eqb, length, get_or}
 use Rattle.text_entries.specs.Entries.{entry_of, offsets_fit}
-use Rattle.bay_lists.specs.declared.ConstraintKind.{ConstraintKind}
-use Rattle.bay_lists.specs.declared.ConstraintKind.TheVariants.{Absent, Lists}
+use Rattle.bay_lists.specs.declared.Constraints as declared
+use Rattle.bay_lists.specs.declared.Constraints.TheVariants.{Absent, Lists}
 
 -- constraints are absent, or a list for each bay
 pub data Constraints : Type 0 where
   absent : Constraints
   lists : (offsets tiles : List ℕ) → Constraints
 
--- which kinds have lists
-abbrev pub has_lists : ConstraintKind → Bool
-has_lists Absent = false
-has_lists Lists = true
-
--- constraints as they are lent: where they are absent the two slices say nothing
-abbrev pub constraints : ConstraintKind → (offsets tiles : List ℕ) → Constraints
-constraints kind offsets tiles = cond (has_lists kind) (lists offsets tiles) absent
+-- the same of the slices that are lent
+abbrev pub constraints_of : declared.Constraints → Constraints
+constraints_of Absent = absent
+constraints_of (Lists offsets tiles) = lists offsets.now tiles.now
 
 -- a list names a strand
 unfoldable pub names : List ℕ → ℕ → Bool
@@ -39,13 +35,3 @@ offsets_shaped bay_count absent = true
 offsets_shaped bay_count (lists offsets tiles) =
     eqb (length offsets) (bay_count + 1)
     && (eqb (get_or offsets 0 0) 0 && (offsets_fit (length tiles) offsets && eqb (get_or offsets bay_count 0) (length tiles)))
-
--- ---- constraints as the inner functions take them, without a kind: no offsets at all are no constraints
-
-abbrev pub by_offsets : (offsets tiles : List ℕ) → Constraints
-by_offsets [] tiles = absent
-by_offsets (offset ∷ offsets) tiles = lists (offset ∷ offsets) tiles
-
--- the offsets that are read of those that are lent
-abbrev pub offsets_read : ConstraintKind → (offsets : List ℕ) → List ℕ
-offsets_read kind offsets = cond (has_lists kind) offsets []

@@ -1,77 +1,75 @@
 // The lists that constrain bays: their shape, the list of a bay, and what it keeps of a set of strands.
 #![tactic(auto)]
 
-ghost use Rattle.std.specs.Prelude.{◌≡◌, true, ◌&&◌, ◌≤◌, ◌<◌, ◌*◌, get_or};
+ghost use Rattle.std.specs.Prelude.{◌≡◌, true, ◌&&◌, ◌≤◌, ◌<◌, ◌*◌};
 ghost use Rattle.units.specs.Limits.{most_side};
 ghost use Rattle.sets.specs.Set.{has, word};
-ghost use Rattle.bay_lists.specs.Lists.{names, has_lists, offsets_shaped, constraints, offsets_read, by_offsets, list_of, list_allows};
+ghost use Rattle.text_entries.specs.Entries.{entry_of};
+ghost use Rattle.bay_lists.specs.Lists.{lists, names, offsets_shaped, constraints_of, list_of, list_allows};
 
-// Whether bays have lists. Beside absent ones the slices of offsets and tiles are not read.
+use text_entries::offsets_fit;
+
+// Absent, or a list of strands for each bay: the list of bay i is what stands in `tiles` from offset i up to offset i + 1.
 #[derive(Clone, Copy)]
-pub enum ConstraintKind {
+pub enum Constraints<'a> {
     Absent,
-    Lists,
+    Lists {
+        offsets: &'a [usize],
+        tiles: &'a [u32],
+    },
 }
 
-// Which kinds have lists: the one place that tells them apart.
-fn has_lists(kind: ConstraintKind) -> bool
-    ensures { result ≡ has_lists kind }
-{
-    match kind {
-        ConstraintKind::Absent => false,
-        ConstraintKind::Lists => true,
+impl<'a> Constraints<'a> {
+    // Whether constraint offsets, where there are any, have the right shape.
+    pub fn offsets_shaped(&self, bays: usize) -> bool
+        requires { bays ≤ most_side * most_side }
+        ensures { result ≡ offsets_shaped bays (constraints_of self.now) }
+    {
+        match *self {
+            Constraints::Absent => true,
+            Constraints::Lists { offsets, tiles } => {
+                offsets.len() == bays + 1
+                    && offsets[0] == 0
+                    && offsets_fit(offsets, tiles.len())
+                    && offsets[bays] == tiles.len()
+            }
+        }
+    }
+
+    // The list of a bay, which is empty where constraints are absent.
+    pub fn bay_list(&self, bays: usize, bay: usize) -> &'a [u32]
+        requires shaped { offsets_shaped bays (constraints_of self.now) ≡ true }
+        requires bay_lt_bays { bay < bays }
+        ensures { result.now ≡ list_of (constraints_of self.now) bay }
+    {
+        match *self {
+            Constraints::Absent => &[],
+            Constraints::Lists { offsets, tiles } => listed(bays, offsets, tiles, bay),
+        }
+    }
+
+    // The strands of a set that a bay's list keeps: all where it is empty.
+    pub fn restricted(&self, set: u64, bays: usize, bay: usize) -> u64
+        requires shaped { offsets_shaped bays (constraints_of self.now) ≡ true }
+        requires bay_lt_bays { bay < bays }
+        ensures { let list = list_of (constraints_of self.now) bay in result ≡ word (λ t. has set t && list_allows list t) 64 }
+    {
+        let list = self.bay_list(bays, bay);
+        if list.is_empty() {
+            set
+        } else {
+            sets::both(set, list_set(list))
+        }
     }
 }
 
-// Whether constraint offsets, where there are any, have the right shape.
-pub fn offsets_shaped(bays: usize, kind: ConstraintKind, offsets: &[usize], tiles: &[u32]) -> bool
-    requires { bays ≤ most_side * most_side }
-    ensures { result ≡ offsets_shaped bays (constraints kind offsets.now tiles.now) }
-{
-    if !has_lists(kind) {
-        return true;
-    }
-    if offsets.len() != bays + 1 {
-        return false;
-    }
-    if offsets[0] != 0 {
-        return false;
-    }
-    if !text_entries::offsets_fit(offsets, tiles.len()) {
-        return false;
-    }
-    offsets[bays] == tiles.len()
-}
-
-// The offsets that the readers of lists go by: none where constraints are absent, so that they need not ask again.
-pub fn offsets_read<'a>(kind: ConstraintKind, offsets: &'a [usize]) -> &'a [usize]
-    ensures { result.now ≡ offsets_read kind offsets.now }
-{
-    if has_lists(kind) {
-        return offsets;
-    }
-    &offsets[0..0]
-}
-
-// Where the list of bay i begins and that of the bay before it ends: 0 past the last offset.
-fn offset_at(offsets: &[usize], i: usize) -> usize
-    ensures { result ≡ get_or offsets.now i 0 }
-{
-    if offsets.len() <= i {
-        return 0;
-    }
-    offsets[i]
-}
-
-// The list of a bay, which is empty where there are no offsets.
-pub fn bay_list<'a>(bays: usize, offsets: &[usize], tiles: &'a [u32], bay: usize) -> &'a [u32]
-    requires tiles_value { offsets_shaped bays (by_offsets offsets.now tiles.now) ≡ true }
+// What stands between the two offsets of a bay.
+fn listed<'a>(bays: usize, offsets: &[usize], tiles: &'a [u32], bay: usize) -> &'a [u32]
+    requires shaped { offsets_shaped bays (lists offsets.now tiles.now) ≡ true }
     requires bay_lt_bays { bay < bays }
-    ensures { result.now ≡ list_of (by_offsets offsets.now tiles.now) bay }
+    ensures { result.now ≡ entry_of tiles.now offsets.now bay }
 {
-    let from = offset_at(offsets, bay);
-    let to = offset_at(offsets, bay + 1);
-    &tiles[from..to]
+    &tiles[offsets[bay]..offsets[bay + 1]]
 }
 
 // The set of the strands below 64 that a list names.
@@ -79,23 +77,8 @@ fn list_set(tiles: &[u32]) -> u64
     ensures { result ≡ word (names tiles.now) 64 }
 {
     let mut set = sets::empty();
-    let mut i = 0;
-    while i < tiles.len() {
-        set = sets::with(set, tiles[i]);
-        i += 1;
+    for &tile in tiles {
+        set = sets::with(set, tile);
     }
     set
-}
-
-// The strands of a set that a bay's list keeps: all where it is empty.
-pub fn restricted(set: u64, bays: usize, offsets: &[usize], tiles: &[u32], bay: usize) -> u64
-    requires tiles_value { offsets_shaped bays (by_offsets offsets.now tiles.now) ≡ true }
-    requires bay_lt_bays { bay < bays }
-    ensures { let list = list_of (by_offsets offsets.now tiles.now) bay in result ≡ word (λ t. has set t && list_allows list t) 64 }
-{
-    let list = bay_list(bays, offsets, tiles, bay);
-    if list.len() == 0 {
-        return set;
-    }
-    sets::both(set, list_set(list))
 }
