@@ -12,21 +12,15 @@ use dna_steps::step_hundredths;
 fn is_weak(base: DnaNucleotideBase) -> bool
     ensures { result ≡ is_weak base }
 {
-    match base {
-        DnaNucleotideBase::A => true,
-        DnaNucleotideBase::T => true,
-        DnaNucleotideBase::G => false,
-        DnaNucleotideBase::C => false,
-    }
+    matches!(base, DnaNucleotideBase::A | DnaNucleotideBase::T)
 }
 
 // The end term: 5 when an end letter is A or T.
+#[tactic(auto, unfolding(crate::specs::Hundredths::end_term))]
 fn end_term(first: DnaNucleotideBase, last: DnaNucleotideBase) -> u32
     ensures { (result ≡ end_term first last) × (result ≤ 10) }
 {
-    if is_weak(first) {
-        5
-    } else if is_weak(last) {
+    if is_weak(first) || is_weak(last) {
         5
     } else {
         0
@@ -39,23 +33,13 @@ fn steps_hundredths(dna: &[u8]) -> u32
     ensures { (result ≡ steps_hundredths dna.now (length dna.now - 1)) × (result ≤ 57344) }
 {
     let mut sum: u32 = 0;
-    let mut i = 0;
-    while i + 1 < dna.len() {
+    for i in 1..dna.len() {
         sum += step_hundredths(
+            DnaNucleotideBase::from(dna[i - 1]),
             DnaNucleotideBase::from(dna[i]),
-            DnaNucleotideBase::from(dna[i + 1]),
         );
-        i += 1;
     }
     sum
-}
-
-// a − b for small numbers.
-fn less(a: u32, b: u32) -> i32
-    requires { (a ≤ 65536) × (b ≤ 65536) }
-    ensures { result ≡ pos a -ℤ pos b }
-{
-    (a as i32) - (b as i32)
 }
 
 // ΔG of a sequence of at least one letter and no more than the limit: the start and the end term less its steps.
@@ -65,5 +49,6 @@ pub fn single_hundredths(dna: &[u8]) -> i32
 {
     let first = DnaNucleotideBase::from(dna[0]);
     let last = DnaNucleotideBase::from(dna[dna.len() - 1]);
-    less(196 + end_term(first, last), steps_hundredths(dna))
+    let added = 196 + end_term(first, last);
+    added as i32 - steps_hundredths(dna) as i32
 }

@@ -1,29 +1,17 @@
--- `dna_hundredths::steps_hundredths` meets its contract. The invariant: the sum is that of the first i steps, and small. Assumes nothing.
-use Prim.Native.Nat.{◌+◌, ◌-◌}
-use mathlib.Core.Path.{◌≡◌, ◌∙◌, sym, ap, ap₂, refl}
-use native.Mathlib.Omega.{arith}
-use lib.ListN.{length}
-use Rattle.dna_hundredths.proofs.Sums.{hundredths_more}
+-- `dna_hundredths::steps_hundredths` meets its contract. The invariant: the sum is that of the steps that end before place i, and small. Assumes nothing.
+use Rattle.std.proofs.Common.{◌≡◌, ◌+◌, ◌-◌, refl, arith}
 use Rattle.dna_hundredths.specs.Hundredths.{steps_hundredths}
+use Rattle.dna_hundredths.proofs.Sums.{hundredths_more}
 use Rattle.dna_hundredths.proofs.steps_hundredths.Goals as goal
 
 pub loop-i-init : goal.loop-i-init
 unfolding steps_hundredths
-loop-i-init c = (omega arith, (refl, omega arith))
-
-pub overflow_add-sum : goal.overflow_add-sum
-overflow_add-sum c = omega (arith, c.step_hundredths-sum.ensures.1)
+loop-i-init c = record { in_range = omega arith; sum = refl; small = omega arith }
 
 pub loop-i-preserved : goal.loop-i-preserved
-loop-i-preserved c = (
-  omega arith,
-  (
-    ap₂ ◌+◌ c.loop-i.invariant.1.0 c.step_hundredths-sum.ensures.0
-        ∙ rw (c.from.ensures, c.from-in-loop-i.ensures) (sym (hundredths_more _ _)),
-    omega (arith, c.step_hundredths-sum.ensures.1),
-  ),
-)
-
-pub returns : goal.returns
-returns c = let last : c.loop-i.i ≡ length c.args.dna.now - 1 = omega arith in
-    (c.loop-i.invariant.1.0 ∙ ap (steps_hundredths c.args.dna.now) last, omega (arith, c.requires))
+loop-i-preserved c = let next : c.loop-i.i + 1 - 1 ≡ c.loop-i.i = omega arith in
+    record {
+      in_range = omega arith;
+      sum = rw (next, hundredths_more c.args.dna.now c.loop-i.i (omega arith), ← c.from.ensures, ← c.from-in-loop-i.ensures, ← c.loop-i.invariant.sum, ← c.step_hundredths-sum.ensures.0);
+      small = omega (arith, c.step_hundredths-sum.ensures.1);
+    }
