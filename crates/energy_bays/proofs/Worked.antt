@@ -4,24 +4,33 @@ use mathlib.Core.Path.{◌≡◌, refl}
 use mathlib.Core.Bool.{true, false}
 use mathlib.Core.List.{List, [], ◌∷◌}
 use lib.Ieee.{Float, binary64, of_bits, add}
-use Rattle.bay_system.specs.System.{System, system}
+use Rattle.bay_system.specs.System.{System}
 use Rattle.energy_bays.specs.Energies.{bay_energy, edge_energy}
 use Rattle.energy_bays.specs.ScanSum.{scan_sum_to, scan_sum_of}
 
 module _ (strands glues : ℕ) (kelvin : Float) (strand_glues scaffold : List ℕ) (delta_g entropy logs : List Float) (seeds : List ℕ) where
   abbrev grid : (rows cols : ℕ) → System
-  grid rows cols = system (record { rows = rows; cols = cols; strands = strands; glues = glues; kelvin = kelvin }) strand_glues scaffold delta_g entropy logs seeds
+  grid rows cols =
+      record {
+        sizes = record { rows = rows; cols = cols; strands = strands; glues = glues; kelvin = kelvin };
+        strand_glues = strand_glues;
+        scaffold = scaffold;
+        delta_g = delta_g;
+        entropy = entropy;
+        logs = logs;
+        seeds = seeds;
+      }
 
   -- a bay, counted row by row, with a strand; two strands of which the first lies west of the second, or north of it
   module _ (rows cols : ℕ) where
     abbrev bay : (number strand : ℕ) → Float
-    bay number strand = bay_energy (grid rows cols).sizes strand_glues scaffold delta_g entropy logs number strand
+    bay number strand = bay_energy (grid rows cols) number strand
 
     abbrev west_east : (west east : ℕ) → Float
-    west_east west east = edge_energy (grid rows cols).sizes strand_glues delta_g entropy false west east
+    west_east west east = edge_energy (grid rows cols) false west east
 
     abbrev north_south : (north south : ℕ) → Float
-    north_south north south = edge_energy (grid rows cols).sizes strand_glues delta_g entropy true north south
+    north_south north south = edge_energy (grid rows cols) true north south
 
   infixl 6 ◌⊕◌
   abbrev ◌⊕◌ : Float → Float → Float

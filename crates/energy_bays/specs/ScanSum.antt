@@ -23,10 +23,9 @@ module _ (s : System) where
   -- bay: (bay + bond to the previous major line) + bond to the previous bay of this line, absent ones left out
   abbrev pub bay_number : (k before beside own : ℕ) → Float
   bay_number k before beside own =
-      let z = s.sizes in
-      with_bond (not (eqb (k % side) 0)) (edge_energy z s.strand_glues s.delta_g s.entropy (not lines) beside own)
-      (with_bond (leb side k) (edge_energy z s.strand_glues s.delta_g s.entropy lines before own)
-      (bay_energy z s.strand_glues s.scaffold s.delta_g s.entropy s.logs (bay_at z.rows z.cols k) own))
+      with_bond (not (eqb (k % side) 0)) (edge_energy s (not lines) beside own)
+      (with_bond (leb side k) (edge_energy s lines before own)
+      (bay_energy s (bay_at s.sizes.rows s.sizes.cols k) own))
 
   -- the scan sum over the first bays, as many as the second argument says, with `strand_at j` on the bay that is scanned as number j: from 0.0, one number
   -- a bay. A neighbour that is not there is asked for too, and `bay_number` leaves it out.

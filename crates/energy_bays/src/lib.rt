@@ -2,60 +2,39 @@
 #![tactic(auto)]
 
 ghost use Rattle.std.specs.Prelude.{◌≡◌};
-ghost use Rattle.energy_bays.specs.Energies.{bay_energy, empty_pair, edge_energy, is_bad};
+ghost use Rattle.bay_system.specs.System.{system_of};
+ghost use Rattle.energy_bays.specs.Energies.{bay_energy, edge_energy, is_bad};
 
-use bay_system::Sizes;
+use bay_bonds::{bond_ns, bond_we, bond_with_scaffold};
+use bay_glues::{log_of, scaffold_glue_at, strand_glues_of};
+use bay_system::System;
 
 // The energy of a bay with a strand: 0.0 with strand 0, else the scaffold bond minus the strand's log concentration.
-pub fn site_beta_energy(
-    z: Sizes,
-    strand_glues: &[u32],
-    scaffold: &[u32],
-    delta_g: &[f64],
-    entropy: &[f64],
-    logs: &[f64],
-    bay: usize,
-    strand: usize,
-) -> f64
-    ensures { result ≡ bay_energy z strand_glues.now scaffold.now delta_g.now entropy.now logs.now bay strand }
+pub fn site_beta_energy(system: &System<'_>, bay: usize, strand: usize) -> f64
+    ensures { result ≡ bay_energy (system_of system.now) bay strand }
 {
     if strand == 0 {
         return 0.0;
     }
-    let own = bay_glues::strand_glues_of(strand_glues, strand);
-    let glue = bay_glues::scaffold_glue_at(scaffold, bay);
-    let bond = bay_bonds::bond_with_scaffold(delta_g, entropy, z.glues, z.kelvin, glue, own);
-    bond - bay_glues::float_or_nan(logs, strand)
-}
-
-// Whether a bay of a pair is empty.
-fn empty_pair(first: usize, second: usize) -> bool
-    ensures { result ≡ empty_pair first second }
-{
-    first == 0 || second == 0
+    let own = strand_glues_of(system, strand);
+    let bond = bond_with_scaffold(system, scaffold_glue_at(system, bay), own);
+    bond - log_of(system, strand)
 }
 
 // The energy of two neighbours, `first` north of `second` or west of it: 0.0 where one is empty, else their bond.
-pub fn edge_beta_between(
-    z: Sizes,
-    strand_glues: &[u32],
-    delta_g: &[f64],
-    entropy: &[f64],
-    north_south: bool,
-    first: usize,
-    second: usize,
-) -> f64
-    ensures { result ≡ edge_energy z strand_glues.now delta_g.now entropy.now north_south first second }
+pub fn edge_beta_between(system: &System<'_>, north_south: bool, first: usize, second: usize) -> f64
+    ensures { result ≡ edge_energy (system_of system.now) north_south first second }
 {
-    if empty_pair(first, second) {
+    if first == 0 || second == 0 {
         return 0.0;
     }
-    let a = bay_glues::strand_glues_of(strand_glues, first);
-    let b = bay_glues::strand_glues_of(strand_glues, second);
+    let a = strand_glues_of(system, first);
+    let b = strand_glues_of(system, second);
     if north_south {
-        return bay_bonds::bond_ns(delta_g, entropy, z.glues, z.kelvin, a, b);
+        bond_ns(system, a, b)
+    } else {
+        bond_we(system, a, b)
     }
-    bay_bonds::bond_we(delta_g, entropy, z.glues, z.kelvin, a, b)
 }
 
 // Whether a sum is no energy: a NaN or minus infinity.
