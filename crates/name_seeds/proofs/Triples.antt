@@ -4,22 +4,17 @@ use mathlib.Core.Path.{◌≡◌, refl, sym, ◌∙◌, ap, subst}
 use mathlib.Core.Bool.{Bool, true, false}
 use mathlib.Core.List.{List, [], ◌∷◌, ◌++◌, append_assoc, append-nil}
 use native.Mathlib.Nat.{not-suc-le-zero, add-zero}
-use native.Mathlib.Numerals.{add-one, add-two}
+use native.Mathlib.Numerals.{add-one}
 use native.Mathlib.Omega.{arith}
 use lib.Dec.{ltb}
-use lib.ListN.{length, get_or, take, drop, set, length-append, drop_of_length-le, get_or-append}
-use lib.Seq.{sets-eq, take_at, drop-append-add, drop-drop, get_or-append-add}
+use lib.ListN.{length, get_or, take, drop, length-append, drop_of_length-le, get_or-append}
+use lib.Seq.{take_at, drop-append-add, drop-drop, get_or-append-add}
 use borrow.Author.Tests.{ltb-true, ltb-false}
 use Rattle.name_strands.specs.Names.{StrandNames}
 use Rattle.name_seed_checks.specs.Sizes.{SeedList}
 use Rattle.name_seed_checks.specs.Each.{seed_row, seed_col, seed_name}
 use Rattle.name_seed_checks.specs.Strands.{seed_strand}
 use Rattle.name_seeds.specs.Seeds.{seed_triples}
-
--- three stores in a row
-pub three_stores : (l : List ℕ) (k row col strand : ℕ) → 3 * k + 3 ≤ length l
-    → set (set (set l (3 * k) row) (3 * k + 1) col) (3 * k + 2) strand ≡ take (3 * k) l ++ row ∷ col ∷ strand ∷ drop (3 * k + 3) l
-three_stores l k row col strand h = rw (add-one (3 * k), add-two (3 * k)) (sets-eq (row ∷ col ∷ strand ∷ []) l (3 * k) h ∙ append_assoc (take (3 * k) l) (row ∷ col ∷ strand ∷ []) (drop (3 * k + 3) l))
 
 -- k triples take 3k places
 pub length_triples : (n : StrandNames) (s : SeedList) (k : ℕ) → length (seed_triples n s k) ≡ 3 * k
