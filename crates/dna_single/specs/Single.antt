@@ -1,7 +1,8 @@
 -- One sequence with its perfect fit: the sum of its steps with the start term, and what is refused of it. Assumes nothing.
-use Rattle.std.specs.Prelude.{ℕ, zero, suc, ◌-◌, List, [], ltb, Float, length}
+use Rattle.std.specs.Prelude.{ℕ, zero, suc, ◌-◌, List, ltb, Float, length}
 use Rattle.units.specs.declared.BaseEnergy.{BaseEnergy}
 use Rattle.units.specs.Refusals.{Verdict, refuse_if, ◌▷◌}
+use Rattle.units.specs.declared.refusal.Refusal.TheVariants.{TooFewLetters}
 use Rattle.units.specs.Kelvin.{kelvin_verdict}
 use Rattle.dna_letters.specs.Bases.{base_at}
 use Rattle.dna_letters.specs.Letters.{length_verdict, letters_verdict}
@@ -18,7 +19,7 @@ single_energy dna = add_energy (steps_sum dna (length dna - 1)) start
 
 -- 12: under 2 letters
 abbrev pub short_verdict : List ℕ → Verdict
-short_verdict dna = refuse_if (ltb (length dna) 2) 12 []
+short_verdict dna = refuse_if (ltb (length dna) 2) TooFewLetters
 
 -- within the limit: letters of the sequence with this number, then shortness
 abbrev pub within_limit_verdict : ℕ → List ℕ → Verdict
