@@ -11,6 +11,7 @@ use lib.Ieee.{Float, nan, inf, fin, up, down, binary64, of_fields, of_bits}
 use lib.Ieee.Exact.{HasValue, odd_sign}
 use lib.Ieee.Fits.{down_pos}
 use lib.Ieee.Nearest.{div_same}
+use Rattle.std.proofs.Common.{Option, Some, None}
 use Rattle.text_energy.specs.Hundredths.{hundredths, is_small, is_negative, nearest_hundredth}
 use Rattle.text_energy.specs.declared.Hundredths.{Hundredths}
 
@@ -130,11 +131,11 @@ last_field s t = go (eqb t 0)
 
 -- ---- the answer, by the fields
 
-abbrev none : Hundredths
-none = record { known = false; negative = false; count = 0 }
+abbrev none : Option Hundredths
+none = None
 
-abbrev some : Bool → ℕ → Hundredths
-some negative count = record { known = true; negative = negative; count = count }
+abbrev some : Bool → ℕ → Option Hundredths
+some negative count = Some (record { negative = negative; count = count })
 
 field_large : (s : Bool) (x t : ℕ) → t < 2 ^ 52 → 1075 ≤ x → x < 2048 → is_small (of_fields binary64 s x t) ≡ false
 field_large s zero t few h k = absurd (omega arith)

@@ -1,5 +1,5 @@
 -- An energy as people read it: the nearest hundredth, and its text. Assumes nothing.
-use Rattle.std.specs.Prelude.{ℕ, ◌+◌, ◌*◌, ◌/◌, ◌%◌, ◌^◌, Bool, true, false, cond, ◌&&◌, List, [], ◌∷◌, ◌++◌, ltb, Float}
+use Rattle.std.specs.Prelude.{ℕ, ◌+◌, ◌*◌, ◌/◌, ◌%◌, ◌^◌, Bool, false, cond, ◌&&◌, List, [], ◌∷◌, ◌++◌, ltb, Float, Option, Some, None}
 use Rattle.std.specs.Float.{nan, inf, fin}
 use Rattle.std.specs.Float.Ieee.{up, down}
 use Rattle.text_put.specs.Puts.{number_text, float_text}
@@ -22,9 +22,8 @@ is_negative nan = false
 is_negative (inf negative) = negative
 is_negative (fin negative m e) = negative
 
-unfoldable pub nearest_hundredth : Float → Hundredths
-nearest_hundredth x =
-    cond (is_small x) (record { known = true; negative = is_negative x; count = hundredths x }) (record { known = false; negative = false; count = 0 })
+unfoldable pub nearest_hundredth : Float → Option Hundredths
+nearest_hundredth x = cond (is_small x) (Some (record { negative = is_negative x; count = hundredths x })) None
 
 -- two digits after a point
 abbrev pub pointed : ℕ → List ℕ

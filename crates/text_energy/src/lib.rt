@@ -9,12 +9,20 @@ ghost use Rattle.text_energy.specs.Hundredths.{nearest_hundredth, pointed, energ
 
 use text_put::{put_float, put_number, put_text};
 
-// The nearest whole number of hundredths of an energy's size, and its sign; not known from 2^52 on, and of what is no number.
-#[derive(Clone, Copy)]
+// The nearest whole number of hundredths of an energy's size, and its sign.
+#[derive(Clone, Copy, Debug, PartialEq, Eq)]
 pub struct Hundredths {
-    pub known: bool,
     pub negative: bool,
     pub count: u64,
+}
+
+impl Hundredths {
+    // Whether the energy is below zero as shown.
+    fn is_below_zero(self) -> bool
+        ensures { result ≡ self.negative && ltb 0 self.count }
+    {
+        self.negative && 0 < self.count
+    }
 }
 
 // 2 to the power k.
@@ -38,43 +46,31 @@ fn scaled(digits: u64, x: u64) -> u64
 }
 
 // The same of a float by its bits: a field for the exponent, and the digits below the leading one.
-fn of_bits(bits: u64) -> Hundredths
+fn of_bits(bits: u64) -> Option<Hundredths>
     ensures { result ≡ nearest_hundredth (of_bits binary64 bits) }
 {
     let x = bits % 9223372036854775808 / 4503599627370496;
     if 1075 <= x {
-        return Hundredths {
-            known: false,
-            negative: false,
-            count: 0,
-        };
+        return None;
     }
+    let negative = 9223372036854775808 <= bits;
     if x == 0 {
-        return Hundredths {
-            known: true,
-            negative: 9223372036854775808 <= bits,
-            count: 0,
-        };
+        return Some(Hundredths { negative, count: 0 });
     }
-    Hundredths {
-        known: true,
-        negative: 9223372036854775808 <= bits,
+    Some(Hundredths {
+        negative,
         count: scaled(4503599627370496 + bits % 4503599627370496, x),
-    }
+    })
 }
 
-// The nearest hundredth of an energy, a half counted away from 0.
-pub fn nearest_hundredth(energy: f64) -> Hundredths
+// The nearest hundredth of an energy, a half counted away from 0; none from 2^52 on, and of what is no number.
+pub fn nearest_hundredth(energy: f64) -> Option<Hundredths>
     ensures { result ≡ nearest_hundredth energy }
 {
-    if energy != energy {
-        return Hundredths {
-            known: false,
-            negative: false,
-            count: 0,
-        };
+    if energy.is_nan() {
+        return None;
     }
-    of_bits(f64::to_bits(energy))
+    of_bits(energy.to_bits())
 }
 
 // A digit's byte.
@@ -82,7 +78,7 @@ fn glyph(digit: u64) -> u8
     requires { digit < 10 }
     ensures { result ≡ 48 + digit }
 {
-    48 + (digit as u8)
+    b'0' + digit as u8
 }
 
 // Hundredths with a point before their last two digits.
@@ -90,31 +86,20 @@ fn put_pointed(out: &mut [u8], at: usize, count: u64) -> usize
     ensures { Put out.old at (pointed count) result out.new }
 {
     let point = put_number(out, at, count / 100);
-    let digits = [46, glyph(count % 100 / 10), glyph(count % 10)];
+    let digits = [b'.', glyph(count % 100 / 10), glyph(count % 10)];
     put_text(out, point, &digits)
-}
-
-// Whether an energy is below zero as shown.
-fn is_below_zero(h: Hundredths) -> bool
-    ensures { result ≡ h.negative && ltb 0 h.count }
-{
-    if h.negative {
-        return 0 < h.count;
-    }
-    false
 }
 
 // Puts an energy in kcal/mol with two decimals, or by its bits where it has no hundredths.
 pub fn put_energy(out: &mut [u8], at: usize, energy: f64) -> usize
     ensures { Put out.old at (energy_text energy) result out.new }
 {
-    let h = nearest_hundredth(energy);
-    if !h.known {
-        return put_float(out, at, energy);
+    match nearest_hundredth(energy) {
+        None => put_float(out, at, energy),
+        Some(h) if h.is_below_zero() => {
+            let next = put_text(out, at, b"-");
+            put_pointed(out, next, h.count)
+        }
+        Some(h) => put_pointed(out, at, h.count),
     }
-    if is_below_zero(h) {
-        let next = put_text(out, at, b"-");
-        return put_pointed(out, next, h.count);
-    }
-    put_pointed(out, at, h.count)
 }
