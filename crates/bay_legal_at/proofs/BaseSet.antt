@@ -10,8 +10,7 @@ use Rattle.bay_binding.specs.Binding.{may_lie}
 use Rattle.sets.specs.Set.{word}
 use Rattle.sets.proofs.Words.{word_same}
 use Rattle.bay_system.specs.System.{System}
-use Rattle.bay_legal_at.specs.declared.seeds.Seed.{Seed}
-use Rattle.bay_legal_at.specs.declared.seeds.Seed.TheVariants.{Unseeded, Seeded}
+use Rattle.std.specs.Prelude.{Option, Some, None}
 use Rattle.bay_legal_at.specs.Legal.{seed_of, permits, is_permitted}
 use Rattle.bay_legal_at.specs.OnGrid.{Below}
 
@@ -25,17 +24,17 @@ only_seed n t s h = by (eqb s t) refl
     by false e = rw e (sym (and_false (ltb s n)))
 
 module _ (s : System) (bay : ℕ) where
-  pub seeded : {x : Seed} {t : ℕ} → x ≡ seed_of s bay → x ≡ Seeded t → Below s.sizes.strands (seed_of s bay) → word (λ u. eqb u t) 64 ≡ word (is_permitted s bay) 64
+  pub seeded : {x : Option ℕ} {t : ℕ} → x ≡ seed_of s bay → x ≡ Some t → Below s.sizes.strands (seed_of s bay) → word (λ u. eqb u t) 64 ≡ word (is_permitted s bay) 64
   seeded {t = t} e f below =
-      let is : seed_of s bay ≡ Seeded t = sym e ∙ f in
+      let is : seed_of s bay ≡ Some t = sym e ∙ f in
       let small : t < s.sizes.strands = subst (Below s.sizes.strands) is below in
       word_same (λ u. eqb u t) (is_permitted s bay) 64
-      (λ u h. only_seed s.sizes.strands t u small ∙ ap (λ (x : Seed). ltb u s.sizes.strands && permits s bay x u) (sym is))
+      (λ u h. only_seed s.sizes.strands t u small ∙ ap (λ (x : Option ℕ). ltb u s.sizes.strands && permits s bay x u) (sym is))
 
-  pub unseeded : {x : Seed} → x ≡ seed_of s bay → x ≡ Unseeded → {glue r : ℕ} → glue ≡ scaffold_glue s.scaffold bay
-      → r ≡ word (λ u. ltb u s.sizes.strands && may_lie s.strand_glues s.delta_g s.entropy s.sizes.glues glue u) 64 → r ≡ word (is_permitted s bay) 64
+  pub unseeded : {x : Option ℕ} → x ≡ seed_of s bay → x ≡ None → {glue r : ℕ} → glue ≡ scaffold_glue s.scaffold bay
+      → r ≡ word (λ u. ltb u s.sizes.strands && may_lie s glue u) 64 → r ≡ word (is_permitted s bay) 64
   unseeded e f {glue} g made =
-      let lies : ℕ → ℕ → Bool = λ n u. ltb u s.sizes.strands && may_lie s.strand_glues s.delta_g s.entropy s.sizes.glues n u in
+      let lies : ℕ → ℕ → Bool = λ n u. ltb u s.sizes.strands && may_lie s n u in
       made
       ∙ word_same (lies glue) (is_permitted s bay) 64
-      (λ u h. ap (λ (n : ℕ). lies n u) g ∙ ap (λ (x : Seed). ltb u s.sizes.strands && permits s bay x u) (sym (sym e ∙ f)))
+      (λ u h. ap (λ (n : ℕ). lies n u) g ∙ ap (λ (x : Option ℕ). ltb u s.sizes.strands && permits s bay x u) (sym (sym e ∙ f)))

@@ -10,16 +10,15 @@ use lib.ListN.{length}
 use borrow.Author.Tests.{ltb-true}
 use Rattle.bay_system.specs.declared.sizes.Sizes.{Sizes}
 use Rattle.bay_system.specs.System.{seed_fits, first_bad_seed}
-use Rattle.bay_legal_at.specs.declared.seeds.Seed.{Seed}
-use Rattle.bay_legal_at.specs.declared.seeds.Seed.TheVariants.{Unseeded, Seeded}
+use Rattle.std.specs.Prelude.{Option, Some, None}
 use Rattle.bay_legal_at.specs.Legal.{later, seed_at}
 use Rattle.bay_legal_at.specs.OnGrid.{Below}
 
-below_later : (limit : ℕ) (new old : Seed) → Below limit new → Below limit old → Below limit (later new old)
-below_later limit Unseeded old n o = o
-below_later limit (Seeded t) old n o = n
+below_later : (limit : ℕ) (new old : Option ℕ) → Below limit new → Below limit old → Below limit (later new old)
+below_later limit None old n o = o
+below_later limit (Some t) old n o = n
 
-below_if : (limit : ℕ) (b : Bool) (strand : ℕ) → strand < limit → Below limit (cond b (Seeded strand) Unseeded)
+below_if : (limit : ℕ) (b : Bool) (strand : ℕ) → strand < limit → Below limit (cond b (Some strand) None)
 below_if limit true strand h = h
 below_if limit false strand h = tt
 
@@ -42,5 +41,5 @@ seed_below z (row ∷ col ∷ strand ∷ seeds) bay h =
     let one : suc (length seeds / 3) ≤ cond (seed_fits z row col strand) (suc (first_bad_seed z seeds)) zero = omega (arith, h) in
     let both = first_of_lem (seed_fits z row col strand) (first_bad_seed z seeds) (length seeds / 3) one in
     let fits = ltb-true strand z.strands (third (ltb row z.rows) (ltb col z.cols) (ltb strand z.strands) both.0) in
-    below_later z.strands (seed_at z.cols seeds bay) (cond (eqb (row * z.cols + col) bay) (Seeded strand) Unseeded)
+    below_later z.strands (seed_at z.cols seeds bay) (cond (eqb (row * z.cols + col) bay) (Some strand) None)
     (seed_below z seeds bay both.1) (below_if z.strands (eqb (row * z.cols + col) bay) strand fits)

@@ -6,29 +6,28 @@ use mathlib.Core.List.{List}
 use lib.Dec.{eqb}
 use lib.ListN.{length, get_or, drop, drop_of_length-le}
 use Rattle.bay_system.proofs.Seeds.{three}
-use Rattle.bay_legal_at.specs.declared.seeds.Seed.{Seed}
-use Rattle.bay_legal_at.specs.declared.seeds.Seed.TheVariants.{Unseeded, Seeded}
+use Rattle.std.specs.Prelude.{Option, Some, None}
 use Rattle.bay_legal_at.specs.Legal.{later, seed_at}
 
-later_later : (a b c : Seed) → later (later a b) c ≡ later a (later b c)
-later_later Unseeded b c = refl
-later_later (Seeded t) b c = refl
+later_later : (a b c : Option ℕ) → later (later a b) c ≡ later a (later b c)
+later_later None b c = refl
+later_later (Some t) b c = refl
 
-module _ (cols : ℕ) (seeds : List ℕ) (bay at : ℕ) (found : Seed) where
+module _ (cols : ℕ) (seeds : List ℕ) (bay at : ℕ) (found : Option ℕ) where
   pub seed_counts : at + 2 < length seeds
       → later (seed_at cols (drop at seeds) bay) found
       ≡ later (seed_at cols (drop (at + 3) seeds) bay)
-      (later (cond (eqb (get_or seeds at 0 * cols + get_or seeds (at + 1) 0) bay) (Seeded (get_or seeds (at + 2) 0)) Unseeded) found)
+      (later (cond (eqb (get_or seeds at 0 * cols + get_or seeds (at + 1) 0) bay) (Some (get_or seeds (at + 2) 0)) None) found)
   unfolding seed_at
   seed_counts h =
       rw (three at seeds h)
       (later_later (seed_at cols (drop (at + 3) seeds) bay)
-      (cond (eqb (get_or seeds at 0 * cols + get_or seeds (at + 1) 0) bay) (Seeded (get_or seeds (at + 2) 0)) Unseeded) found)
+      (cond (eqb (get_or seeds at 0 * cols + get_or seeds (at + 1) 0) bay) (Some (get_or seeds (at + 2) 0)) None) found)
 
   pub no_seed_left : length seeds ≤ at → later (seed_at cols (drop at seeds) bay) found ≡ found
   unfolding seed_at
   no_seed_left h = rw (drop_of_length-le seeds h)
 
-pub later_none : (a : Seed) → later a Unseeded ≡ a
-later_none Unseeded = refl
-later_none (Seeded t) = refl
+pub later_none : (a : Option ℕ) → later a None ≡ a
+later_none None = refl
+later_none (Some t) = refl

@@ -6,7 +6,7 @@ use Rattle.bay_system.proofs.Fine.{Fine, fine}
 use Rattle.bay_legal_at.specs.OnGrid.{Grid}
 use Rattle.bay_legal_at.proofs.SeedBelow.{seed_below}
 
-of_fine : (s : System) → Fine s → Grid s.sizes s.strand_glues s.scaffold s.delta_g s.entropy s.seeds
+of_fine : (s : System) → Fine s → Grid s
 of_fine s f =
     record {
       readable =
@@ -28,5 +28,5 @@ of_fine s f =
           };
     }
 
-pub sound : (s : System) → system_verdict s ≡ passes → Grid s.sizes s.strand_glues s.scaffold s.delta_g s.entropy s.seeds
+pub sound : (s : System) → system_verdict s ≡ passes → Grid s
 sound s e = of_fine s (fine s e)

@@ -7,7 +7,7 @@ use lib.IntN.{pos, negsuc}
 use lib.Ieee.{Float, fin, ne}
 use Rattle.units.specs.Decimals.{decimal, plus, minus}
 use Rattle.sets.specs.Set.{word}
-use Rattle.bay_system.specs.System.{System, system}
+use Rattle.bay_system.specs.System.{System}
 use Rattle.bay_lists.specs.Lists.{absent}
 use Rattle.bay_legal_at.specs.Legal.{seed_at, is_legal, set_at}
 
@@ -15,8 +15,15 @@ use Rattle.bay_legal_at.specs.Legal.{seed_at, is_legal, set_at}
 abbrev pair : (dg ds : Float) → (seeds : List ℕ) → System
 pair dg ds seeds =
     let o = plus 0 1 in
-    system (record { rows = 1; cols = 2; strands = 3; glues = 2; kelvin = plus 31015 100 }) (0 ∷ 0 ∷ 0 ∷ 0 ∷ 0 ∷ 0 ∷ 0 ∷ 0 ∷ 0 ∷ 1 ∷ 0 ∷ 0 ∷ 0 ∷ 0 ∷ 1 ∷ []) (1 ∷ 1 ∷ [])
-    (o ∷ o ∷ o ∷ dg ∷ []) (o ∷ o ∷ o ∷ ds ∷ []) (o ∷ o ∷ o ∷ []) seeds
+    record {
+      sizes = record { rows = 1; cols = 2; strands = 3; glues = 2; kelvin = plus 31015 100 };
+      strand_glues = 0 ∷ 0 ∷ 0 ∷ 0 ∷ 0 ∷ 0 ∷ 0 ∷ 0 ∷ 0 ∷ 1 ∷ 0 ∷ 0 ∷ 0 ∷ 0 ∷ 1 ∷ [];
+      scaffold = 1 ∷ 1 ∷ [];
+      delta_g = o ∷ o ∷ o ∷ dg ∷ [];
+      entropy = o ∷ o ∷ o ∷ ds ∷ [];
+      logs = o ∷ o ∷ o ∷ [];
+      seeds = seeds;
+    }
 
 abbrev minus_zero : Float
 minus_zero = fin true 0 (pos 0)
@@ -51,8 +58,15 @@ later_seed_0_wins = refl
 abbrev crossed : (bay bottom : ℕ) → System
 crossed bay bottom =
     let o = plus 0 1 in
-    system (record { rows = 1; cols = 1; strands = 2; glues = 3; kelvin = plus 31015 100 }) (0 ∷ 0 ∷ 0 ∷ 0 ∷ 0 ∷ 0 ∷ 0 ∷ 0 ∷ 0 ∷ bottom ∷ []) (bay ∷ [])
-    (o ∷ o ∷ o ∷ o ∷ o ∷ minus 1 1 ∷ o ∷ o ∷ o ∷ []) (o ∷ o ∷ o ∷ o ∷ o ∷ o ∷ o ∷ o ∷ o ∷ []) (o ∷ o ∷ []) []
+    record {
+      sizes = record { rows = 1; cols = 1; strands = 2; glues = 3; kelvin = plus 31015 100 };
+      strand_glues = 0 ∷ 0 ∷ 0 ∷ 0 ∷ 0 ∷ 0 ∷ 0 ∷ 0 ∷ 0 ∷ bottom ∷ [];
+      scaffold = bay ∷ [];
+      delta_g = o ∷ o ∷ o ∷ o ∷ o ∷ minus 1 1 ∷ o ∷ o ∷ o ∷ [];
+      entropy = o ∷ o ∷ o ∷ o ∷ o ∷ o ∷ o ∷ o ∷ o ∷ [];
+      logs = o ∷ o ∷ [];
+      seeds = [];
+    }
 
 -- the index order: the bay's glue, then the strand's bottom glue
 pub bay_then_bottom : is_legal (crossed 1 2) absent 0 1 ≡ true

@@ -4,5 +4,5 @@
 mod seeds;
 mod sets_at;
 
-pub use seeds::{Seed, seed_at};
+pub use seeds::seed_at;
 pub use sets_at::{base_allowed_tiles_at, constrained_allowed_tiles_at};
