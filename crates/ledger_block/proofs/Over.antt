@@ -6,6 +6,7 @@ use native.Mathlib.Nat.{add-zero}
 use native.Mathlib.Omega.{arith}
 use lib.ListN.{length, get_or, set, take, drop, length-append, length-drop, take-append-drop}
 use lib.Seq.{length-take-le, take_at, set_at, drop-cons, take-append-le, drop-append-le, drop-append-add, drop-drop}
+use Rattle.ledger_block.specs.declared.Stretch.{Stretch}
 use Rattle.ledger_block.specs.Block.{over, part}
 
 module _ {A : Type 0} (old : List A) (at : ℕ) where
@@ -42,17 +43,17 @@ module _ {A : Type 0} (old : List A) (at : ℕ) where
         ∙ ap (λ i. take at old ++ ((new ++ (v ∷ [])) ++ drop i old)) (sym one)
 
     -- a part before it is as it was
-    pub part_over : (from end : ℕ) → from ≤ end → end ≤ at → at ≤ length old → part from end (over old at new) ≡ part from end old
-    part_over from end h b l =
+    pub part_over : (s : Stretch) → s.from ≤ s.end → s.end ≤ at → at ≤ length old → part s (over old at new) ≡ part s old
+    part_over s h b l =
         before (new ++ drop (at + length new) old)
         ∙ sym (before (drop at old))
-        ∙ ap (part from end) (take-append-drop at old)
+        ∙ ap (part s) (take-append-drop at old)
       where
-        before : (rest : List A) → part from end (take at old ++ rest) ≡ take (end - from) (drop from (take at old))
+        before : (rest : List A) → part s (take at old ++ rest) ≡ take (s.end - s.from) (drop s.from (take at old))
         before rest =
             let long = length-take-le at old l in
-            ap (take (end - from)) (drop-append-le from (take at old) rest (omega arith))
-            ∙ take-append-le (end - from) (drop from (take at old)) rest (omega (arith, length-drop from (take at old)))
+            ap (take (s.end - s.from)) (drop-append-le s.from (take at old) rest (omega arith))
+            ∙ take-append-le (s.end - s.from) (drop s.from (take at old)) rest (omega (arith, length-drop s.from (take at old)))
 
     -- a second stretch right behind the first
     pub over_over : (more : List A) (j : ℕ) → j ≡ at + length new → j + length more ≤ length old → over (over old at new) j more ≡ over old at (new ++ more)

@@ -6,8 +6,15 @@ ghost use Rattle.units.specs.Limits.{most_strands};
 ghost use Rattle.ledger_row_choice.specs.Row.{strands_of};
 ghost use Rattle.ledger_block.specs.Block.{Writable, over, part, own_of, bay_line, bay_block, following_in};
 
-use ledger_row_choice::{Own, PAIRS, bond_at, row};
+use ledger_row_choice::{Bonds, Own, PAIRS, bond_at, row};
 use units::MOST_STRANDS;
+
+// The places of a block in the tables: from one place to another.
+#[derive(Clone, Copy)]
+pub struct Stretch {
+    pub from: usize,
+    pub end: usize,
+}
 
 // What the code knows of a bay when it writes its block.
 #[derive(Clone, Copy)]
@@ -28,42 +35,40 @@ fn own_of(bay: Bay, here: &[f64], side: &[f64; PAIRS], u: usize, t: usize) -> Ow
     Own {
         strand: t,
         bay: here[t],
-        side: bond_at(side, u, t),
+        side: bay.beside.then_some(bond_at(side, u, t)),
         below: bay.below,
-        beside: bay.beside,
     }
 }
 
 // Writes the rows of the bay's strands from `at` on, for row q of what stays and u on the previous
-// bay. The block before stands from `from` to `end`.
+// bay, with the block before at `before`.
 fn put_line(
     bay: Bay,
     here: &[f64],
-    major: &[f64; PAIRS],
-    side: &[f64; PAIRS],
+    bonds: &Bonds,
     q: usize,
     u: usize,
-    from: usize,
-    end: usize,
+    before: Stretch,
     at: usize,
     energies: &mut [f64],
     notes: &mut [u8],
 )
     requires u_lt_most_strands { (u < most_strands) × (q < bay.width) × (most_strands ≤ length here.now) }
-    requires writable { Writable bay from end at (length (strands_of bay.set)) (length energies.old) (length notes.old) }
-    ensures energies_after { let before = part from end energies.old in
-        let line = bay_line (λ c. c.energy) bay here.now major.now side.now before q u in
+    requires writable { Writable bay before at (length (strands_of bay.set)) (length energies.old) (length notes.old) }
+    ensures energies_after { let held = part before energies.old in
+        let line = bay_line (λ c. c.energy) bay here.now bonds.now held q u in
         energies.new ≡ over energies.old at line }
-    ensures notes_after { let before = part from end energies.old in
-        let line = bay_line (λ c. c.who) bay here.now major.now side.now before q u in
+    ensures notes_after { let held = part before energies.old in
+        let line = bay_line (λ c. c.who) bay here.now bonds.now held q u in
         notes.new ≡ over notes.old at line }
 {
     let mut left = bay.set;
     let mut j = at;
     while !sets::is_empty(left) {
         let t = sets::first(left) as usize;
-        let own = own_of(bay, here, side, u, t);
-        let best = row(&energies[from..end], q, bay.width, bay.leaving, major, own);
+        let own = own_of(bay, here, &bonds.side, u, t);
+        let held = &energies[before.from..before.end];
+        let best = row(held, q, bay.width, bay.leaving, &bonds.major, own);
         energies[j] = best.energy;
         notes[j] = best.who as u8;
         left = sets::rest(left);
@@ -84,36 +89,28 @@ fn following(set: u64, u: u32) -> u32
     }
 }
 
-// Writes the bay's block at `end`, behind the block before, which begins at `from`.
+// Writes the bay's block right behind the block before.
 pub fn put_bay(
     bay: Bay,
     here: &[f64],
-    major: &[f64; PAIRS],
-    side: &[f64; PAIRS],
-    from: usize,
-    end: usize,
+    bonds: &Bonds,
+    before: Stretch,
     energies: &mut [f64],
     notes: &mut [u8],
 )
     requires nonzero { (0 < length (strands_of bay.previous)) × (most_strands ≤ length here.now) }
-    requires writable { Writable bay from end end (bay.width * length (strands_of bay.set)) (length energies.old) (length notes.old) }
-    ensures energies_after { let before = part from end energies.old in
-        let block = bay_block (λ c. c.energy) bay here.now major.now side.now before in
-        energies.new ≡ over energies.old end block }
-    ensures notes_after { let before = part from end energies.old in
-        let block = bay_block (λ c. c.who) bay here.now major.now side.now before in
-        notes.new ≡ over notes.old end block }
+    requires writable { Writable bay before before.end (bay.width * length (strands_of bay.set)) (length energies.old) (length notes.old) }
+    ensures energies_after { let block = bay_block (λ c. c.energy) bay here.now bonds.now (part before energies.old) in
+        energies.new ≡ over energies.old before.end block }
+    ensures notes_after { let block = bay_block (λ c. c.who) bay here.now bonds.now (part before energies.old) in
+        notes.new ≡ over notes.old before.end block }
 {
     let count = sets::size(bay.set) as usize;
     let mut u = sets::next(bay.previous, 0);
-    let mut at = end;
-    let mut q = 0;
-    while q < bay.width {
-        put_line(
-            bay, here, major, side, q, u as usize, from, end, at, energies, notes,
-        );
+    let mut at = before.end;
+    for q in 0..bay.width {
+        put_line(bay, here, bonds, q, u as usize, before, at, energies, notes);
         u = following(bay.previous, u);
         at += count;
-        q += 1;
     }
 }

@@ -18,6 +18,7 @@ use Rattle.ledger_rows.specs.Scan.{Scan, EachHasStrand}
 use Rattle.ledger_rows.specs.Blocks.{size, need}
 use Rattle.ledger_rows.proofs.Numbering.{size_more, size_leavers, leavers_some}
 use Rattle.ledger_block.specs.declared.Bay.{Bay}
+use Rattle.ledger_row_choice.specs.declared.Bonds.{Bonds}
 use Rattle.ledger_row_choice.specs.Row.{strands_of}
 use Rattle.ledger_fill.specs.Handed.{scan_of, capped}
 use Rattle.ledger_fill.specs.Bays.{leaving_of, bay_of}
@@ -64,43 +65,43 @@ capped_small n h = elim (dec_le n most_rows) [ yes l ↦ sym (capped_in n l) | n
 
 -- ---- the sizes that the code goes through
 -- what is known of bay k as it comes, behind a block with so many rows
-pub record Coming (window : ℕ) (sets : List ℕ) (rows : ℕ → List Float) (major side : List Float) (k before : ℕ) : Type 0 where
+pub record Coming (window : ℕ) (sets : List ℕ) (rows : ℕ → List Float) (bonds : Bonds) (k before : ℕ) : Type 0 where
   pub some_leave : 0 < length (strands_of (leaving_of window sets k))
-  pub width_is : before / length (strands_of (leaving_of window sets k)) ≡ size (scan_of window sets rows major side) k (window - 1)
-  pub small : size (scan_of window sets rows major side) k (window - 1) ≤ most_rows
-  pub rows_are : size (scan_of window sets rows major side) k (window - 1) * length (strands_of (get_or sets k 0)) ≡ size (scan_of window sets rows major side) (k + 1) (suc (window - 1))
+  pub width_is : before / length (strands_of (leaving_of window sets k)) ≡ size (scan_of window sets rows bonds) k (window - 1)
+  pub small : size (scan_of window sets rows bonds) k (window - 1) ≤ most_rows
+  pub rows_are : size (scan_of window sets rows bonds) k (window - 1) * length (strands_of (get_or sets k 0)) ≡ size (scan_of window sets rows bonds) (k + 1) (suc (window - 1))
 
-module _ {window : ℕ} {sets : List ℕ} {rows : ℕ → List Float} {major side : List Float} {k before : ℕ} (c : Coming window sets rows major side k before) {b : Bay}
+module _ {window : ℕ} {sets : List ℕ} {rows : ℕ → List Float} {bonds : Bonds} {k before : ℕ} (c : Coming window sets rows bonds k before) {b : Bay}
     (e : b ≡ bay_of window sets k (before / length (strands_of (leaving_of window sets k)))) where
-  bay_width : b.width ≡ size (scan_of window sets rows major side) k (window - 1)
+  bay_width : b.width ≡ size (scan_of window sets rows bonds) k (window - 1)
   bay_width = ap (λ (b : Bay). b.width) e ∙ c.width_is
 
-  pub bay_is : b ≡ bay_of window sets k (size (scan_of window sets rows major side) k (window - 1))
+  pub bay_is : b ≡ bay_of window sets k (size (scan_of window sets rows bonds) k (window - 1))
   bay_is = e ∙ ap (bay_of window sets k) c.width_is
 
   pub bay_small : b.width ≤ most_rows
   bay_small = subst (λ w. w ≤ most_rows) (sym bay_width) c.small
 
-  pub bay_rows : (r : ℕ) → r ≡ b.width * length (strands_of b.set) → r ≡ size (scan_of window sets rows major side) (k + 1) (suc (window - 1))
+  pub bay_rows : (r : ℕ) → r ≡ b.width * length (strands_of b.set) → r ≡ size (scan_of window sets rows bonds) (k + 1) (suc (window - 1))
   bay_rows r f = f ∙ ap₂ (λ w s. w * length (strands_of s)) bay_width (ap (λ (b : Bay). b.set) e) ∙ c.rows_are
 
   pub rows_small : (r : ℕ) → r ≡ b.width * length (strands_of b.set) → r ≤ most_rows * most_strands
   rows_small r f = subst (λ i. i ≤ most_rows * most_strands) (sym f) (product_small b.width b.set bay_small)
 
 -- the rows of the first k of n bays are counted, and none is past the limit
-pub record Counting (window : ℕ) (sets : List ℕ) (rows : ℕ → List Float) (major side : List Float) (n k before used : ℕ) : Type 0 where
+pub record Counting (window : ℕ) (sets : List ℕ) (rows : ℕ → List Float) (bonds : Bonds) (n k before used : ℕ) : Type 0 where
   pub some_window : 0 < window
-  pub filled : EachHasStrand (scan_of window sets rows major side) n
+  pub filled : EachHasStrand (scan_of window sets rows bonds) n
   pub within : k ≤ n
-  pub rows_are : before ≡ size (scan_of window sets rows major side) k (suc (window - 1))
-  pub used_is : used ≡ need (scan_of window sets rows major side) k
+  pub rows_are : before ≡ size (scan_of window sets rows bonds) k (suc (window - 1))
+  pub used_is : used ≡ need (scan_of window sets rows bonds) k
   pub few_rows : before ≤ most_rows
   pub few : used ≤ most_rows
 
-pub counting_starts : (window : ℕ) (sets : List ℕ) (rows : ℕ → List Float) (major side : List Float) (n : ℕ) → 0 < window → EachHasStrand (scan_of window sets rows major side) n
-    → Counting window sets rows major side n 0 1 0
-counting_starts window sets rows major side n pos some =
-    let z = scan_of window sets rows major side in
+pub counting_starts : (window : ℕ) (sets : List ℕ) (rows : ℕ → List Float) (bonds : Bonds) (n : ℕ) → 0 < window → EachHasStrand (scan_of window sets rows bonds) n
+    → Counting window sets rows bonds n 0 1 0
+counting_starts window sets rows bonds n pos some =
+    let z = scan_of window sets rows bonds in
     record {
       some_window = pos;
       filled = some;
@@ -111,13 +112,13 @@ counting_starts window sets rows major side n pos some =
       few = omega arith;
     }
 
-module _ {window : ℕ} {sets : List ℕ} {rows : ℕ → List Float} {major side : List Float} {n k before used : ℕ} (l : Counting window sets rows major side n k before used) where
+module _ {window : ℕ} {sets : List ℕ} {rows : ℕ → List Float} {bonds : Bonds} {n k before used : ℕ} (l : Counting window sets rows bonds n k before used) where
   abbrev z : Scan
-  z = scan_of window sets rows major side
+  z = scan_of window sets rows bonds
 
-  pub counting_comes : k < n → Coming window sets rows major side k before
+  pub counting_comes : k < n → Coming window sets rows bonds k before
   counting_comes h =
-      let same = leaving_is window sets rows major side k l.some_window in
+      let same = leaving_is window sets rows bonds k l.some_window in
       let leave = subst (λ m. 0 < length m) (sym same) (leavers_some z (window - 1) k (λ i b. l.filled i (omega arith))) in
       let count = length (strands_of (leaving_of window sets k)) in
       let split : before ≡ count * size z k (window - 1) = l.rows_are ∙ size_leavers z (window - 1) k ∙ ap (λ m. length m * size z k (window - 1)) (sym same) in
@@ -131,7 +132,7 @@ module _ {window : ℕ} {sets : List ℕ} {rows : ℕ → List Float} {major sid
   pub counted : {r : ℕ} → r ≡ size z (k + 1) (suc (window - 1)) → used + r ≡ need z (k + 1)
   counted e = ap₂ (λ a b. a + b) l.used_is e ∙ sym (need_more z k)
 
-  pub counting_turns : {r : ℕ} → k < n → r ≡ size z (k + 1) (suc (window - 1)) → used + r ≤ most_rows → Counting window sets rows major side n (k + 1) r (used + r)
+  pub counting_turns : {r : ℕ} → k < n → r ≡ size z (k + 1) (suc (window - 1)) → used + r ≤ most_rows → Counting window sets rows bonds n (k + 1) r (used + r)
   counting_turns h e few =
       record { some_window = l.some_window; filled = l.filled; within = omega arith; rows_are = e; used_is = counted e; few_rows = omega arith; few = few }
 

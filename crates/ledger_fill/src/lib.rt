@@ -11,8 +11,8 @@ ghost use Rattle.ledger_fill.specs.Handed.{set_scan, run_scan, Fillable, capped}
 ghost use Rattle.ledger_fill.specs.Bays.{leaving_of, bay_of};
 ghost use Rattle.ledger_fill.specs.Last.{LedgerFilled};
 
-use ledger_block::{Bay, put_bay};
-use ledger_row_choice::PAIRS;
+use ledger_block::{Bay, Stretch, put_bay};
+use ledger_row_choice::Bonds;
 use units::{MOST_ROWS, MOST_STRANDS};
 
 // One row more than a ledger may have.
@@ -27,13 +27,6 @@ pub fn leaving(window: usize, sets: &[u64], k: usize) -> u64
     if window <= k { sets[k - window] } else { 1 }
 }
 
-// The number before k, and 0 before 0.
-fn one_less(k: usize) -> usize
-    ensures { result ≡ k - 1 }
-{
-    if k == 0 { 0 } else { k - 1 }
-}
-
 // Bay k of the run, behind a block of so many rows.
 fn bay_at(window: usize, sets: &[u64], k: usize, rows: usize) -> Bay
     requires window_nonzero { (0 < window) × (k < length sets.now) }
@@ -41,11 +34,10 @@ fn bay_at(window: usize, sets: &[u64], k: usize, rows: usize) -> Bay
     ensures { result ≡ bay_of window sets.now k (rows / length (strands_of (leaving_of window sets.now k))) }
 {
     let leaves = leaving(window, sets, k);
-    let before = one_less(k);
     Bay {
         set: sets[k],
         leaving: leaves,
-        previous: sets[before],
+        previous: sets[k.saturating_sub(1)],
         width: rows / sets::size(leaves) as usize,
         below: window <= k,
         beside: k % window != 0,
@@ -69,23 +61,14 @@ pub fn need(window: usize, sets: &[u64]) -> usize
 {
     let mut rows = 1;
     let mut used = 0;
-    let mut k = 0;
-    while k < sets.len() {
+    for k in 0..sets.len() {
         rows = rows_of(bay_at(window, sets, k, rows));
         used += rows;
         if MOST_ROWS < used {
             return TOO_MANY_ROWS;
         }
-        k += 1;
     }
     used
-}
-
-// Where the last block stands.
-#[derive(Clone, Copy)]
-pub struct Last {
-    pub from: usize,
-    pub end: usize,
 }
 
 // Writes all blocks from place 0 on, one behind the other, and answers where the last one stands. Row k of `bays`, which
@@ -94,37 +77,26 @@ pub fn fill(
     window: usize,
     sets: &[u64],
     bays: &[f64],
-    major: &[f64; PAIRS],
-    side: &[f64; PAIRS],
+    bonds: &Bonds,
     energies: &mut [f64],
     notes: &mut [u8],
-) -> Last
+) -> Stretch
     requires { Fillable window sets.now bays.now (length energies.old) (length notes.old) }
-    ensures { let z = run_scan window sets.now bays.now major.now side.now in
+    ensures { let z = run_scan window sets.now bays.now bonds.now in
         LedgerFilled z (length sets.now) result energies.old energies.new notes.old notes.new }
 {
     let mut rows = 1;
-    let mut from = 0;
-    let mut end = 0;
-    let mut k = 0;
-    while k < sets.len() {
+    let mut last = Stretch { from: 0, end: 0 };
+    for k in 0..sets.len() {
         let bay = bay_at(window, sets, k, rows);
         let at = k * MOST_STRANDS;
-        let past = at + MOST_STRANDS;
-        put_bay(
-            bay,
-            &bays[at..past],
-            major,
-            side,
-            from,
-            end,
-            energies,
-            notes,
-        );
+        let here = &bays[at..at + MOST_STRANDS];
+        put_bay(bay, here, bonds, last, energies, notes);
         rows = rows_of(bay);
-        from = end;
-        end += rows;
-        k += 1;
+        last = Stretch {
+            from: last.end,
+            end: last.end + rows,
+        };
     }
-    Last { from, end }
+    last
 }

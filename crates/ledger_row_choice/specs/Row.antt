@@ -1,5 +1,5 @@
 -- One row of a block, from what the code has at hand: what a strand adds, and the lowest sum over the strands that leave. Assumes nothing.
-use Rattle.std.specs.Prelude.{List, ℕ, ◌+◌, ◌*◌, Float, get_or}
+use Rattle.std.specs.Prelude.{List, ℕ, ◌+◌, ◌*◌, Float, get_or, Option, Some, None}
 use Rattle.std.specs.Float.{nan, binary64}
 use Rattle.std.specs.Float.Ieee.{add}
 use Rattle.units.specs.Limits.{most_strands}
@@ -17,9 +17,14 @@ strands_of set = members (has set) most_strands
 abbrev pub bond_at : (table : List Float) → (s t : ℕ) → Float
 bond_at table s t = get_or table (t * most_strands + s) nan
 
+-- with the bond to the previous bay, where there is one
+abbrev pub with_side : Option Float → (x : Float) → Float
+with_side (Some bond) x = add binary64 x bond
+with_side None x = x
+
 -- what a strand adds, with strand s on the bay of the previous major line
 abbrev pub own_adds : Own → (major : List Float) → (s : ℕ) → Float
-own_adds own major s = with_bond own.beside own.side (with_bond own.below (bond_at major s own.strand) own.bay)
+own_adds own major s = with_side own.side (with_bond own.below (bond_at major s own.strand) own.bay)
 
 -- the sum with which strand s leaves row i of the block before
 abbrev pub left_by : Own → (major before : List Float) → (i s : ℕ) → Choice

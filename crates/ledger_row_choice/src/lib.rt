@@ -13,22 +13,29 @@ use units::MOST_STRANDS;
 // How many pairs of strands there are: the places of a table of bonds.
 pub const PAIRS: usize = MOST_STRANDS * MOST_STRANDS;
 
-// What is fixed of a strand in a row: its bay energy, its bond to the previous bay, and which
-// neighbours are there.
+// The bonds of all pairs of strands: to the bay of the previous major line, and to the previous bay
+// of the same line.
+#[derive(Drop)]
+pub struct Bonds {
+    pub major: [f64; PAIRS],
+    pub side: [f64; PAIRS],
+}
+
+// What is fixed of a strand in a row: its bay energy, its bond to the previous bay where that is of
+// the same line, and whether there is a bay below, of the previous major line.
 #[derive(Clone, Copy)]
 pub struct Own {
     pub strand: usize,
     pub bay: f64,
-    pub side: f64,
+    pub side: Option<f64>,
     pub below: bool,
-    pub beside: bool,
 }
 
 // The energy in row i of the block before, and 0.0 where no bay is before.
 fn held(before: &[f64], i: usize) -> f64
     ensures { result ≡ held_at before.now i }
 {
-    if i < before.len() { before[i] } else { 0.0 }
+    before.get(i).copied().unwrap_or(0.0)
 }
 
 // The bond of strand s with strand t, which comes after it. Those of one t stand side by side,
@@ -53,7 +60,10 @@ fn own_adds(own: Own, major: &[f64; PAIRS], s: usize) -> f64
     ensures { result ≡ own_adds own major.now s }
 {
     let x = with_bond(own.below, bond_at(major, s, own.strand), own.bay);
-    with_bond(own.beside, own.side, x)
+    match own.side {
+        Some(bond) => x + bond,
+        None => x,
+    }
 }
 
 // The sum with which strand s leaves row i of the block before.

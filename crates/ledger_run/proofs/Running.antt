@@ -21,7 +21,8 @@ use Rattle.ledger_rows.proofs.Rows.{length_energies}
 use Rattle.ledger_rows.proofs.Tables.{length_energy_table, length_note_table, notes_follow}
 use Rattle.ledger_rows.proofs.SameStrands.{size_same, need_same, leavers_same}
 use Rattle.ledger_rows.proofs.Answering.{answer_inside, note_leaves}
-use Rattle.ledger_fill.specs.declared.Last.{Last}
+use Rattle.ledger_block.specs.declared.Stretch.{Stretch}
+use Rattle.ledger_row_choice.specs.declared.Bonds.{Bonds}
 use Rattle.ledger_row_choice.specs.Row.{strands_of}
 use Rattle.ledger_fill.specs.Handed.{added_of, set_scan, bay_row, run_scan, Fillable}
 use Rattle.ledger_block.specs.Block.{over, part}
@@ -45,23 +46,23 @@ pub sets_rise : (set : ℕ) → Rising (strands_of set)
 sets_rise set p q h l = rising (has set) most_strands p q 0 h l
 
 -- the need that is counted from the sets is the run's
-pub need_is : (window : ℕ) (sets : List ℕ) (bays major side : List Float) (k : ℕ) → need (set_scan window sets) k ≡ need (run_scan window sets bays major side) k
-need_is window sets bays major side = need_same (set_scan window sets) (added_of window (bay_row bays) major side)
+pub need_is : (window : ℕ) (sets : List ℕ) (bays : List Float) (bonds : Bonds) (k : ℕ) → need (set_scan window sets) k ≡ need (run_scan window sets bays bonds) k
+need_is window sets bays bonds = need_same (set_scan window sets) (added_of window (bay_row bays) bonds)
 
 -- a refused run leaves the layout as it was
 pub kept_order : (z : Scan) (n : ℕ) (order₀ : List ℕ) → lt (inf true) (answer z n) ≡ false → order₀ ≡ if_answered z n (in_order (layout z n)) order₀
 kept_order z n order₀ bad = sym (ap (λ b. cond b (in_order (layout z n)) order₀) bad)
 
 -- what is known once the ledger is filled: where the last block stands, and what both tables hold
-pub record OnceFilled (window : ℕ) (sets : List ℕ) (bays major side energies₀ : List Float) (notes₀ : List ℕ) (last : Last) (filled : List Float) (noted : List ℕ) : Type 0 where
+pub record OnceFilled (window : ℕ) (sets : List ℕ) (bays : List Float) (bonds : Bonds) (energies₀ : List Float) (notes₀ : List ℕ) (last : Stretch) (filled : List Float) (noted : List ℕ) : Type 0 where
   pub some : 0 < length sets
   pub fit : Fillable window sets bays (length energies₀) (length notes₀)
-  pub done : LedgerFilled (run_scan window sets bays major side) (length sets) last energies₀ filled notes₀ noted
+  pub done : LedgerFilled (run_scan window sets bays bonds) (length sets) last energies₀ filled notes₀ noted
 
-module _ {window : ℕ} {sets : List ℕ} {bays major side energies₀ : List Float} {notes₀ : List ℕ} {last : Last} {filled : List Float} {noted : List ℕ}
-    (r : OnceFilled window sets bays major side energies₀ notes₀ last filled noted) where
+module _ {window : ℕ} {sets : List ℕ} {bays : List Float} {bonds : Bonds} {energies₀ : List Float} {notes₀ : List ℕ} {last : Stretch} {filled : List Float} {noted : List ℕ}
+    (r : OnceFilled window sets bays bonds energies₀ notes₀ last filled noted) where
   abbrev z : Scan
-  z = run_scan window sets bays major side
+  z = run_scan window sets bays bonds
 
   abbrev zs : Scan
   zs = set_scan window sets
@@ -70,13 +71,13 @@ module _ {window : ℕ} {sets : List ℕ} {bays major side energies₀ : List Fl
   n = length sets
 
   size_is : (k j : ℕ) → size zs k j ≡ size z k j
-  size_is = size_same zs (added_of window (bay_row bays) major side)
+  size_is = size_same zs (added_of window (bay_row bays) bonds)
 
   need_at : (k : ℕ) → need zs k ≡ need z k
-  need_at = need_is window sets bays major side
+  need_at = need_is window sets bays bonds
 
   leavers_are : (j k : ℕ) → leavers zs j k ≡ leavers z j k
-  leavers_are = leavers_same zs (added_of window (bay_row bays) major side)
+  leavers_are = leavers_same zs (added_of window (bay_row bays) bonds)
 
   last_size : length (energies z n) ≡ size z n (suc (window - 1))
   last_size = go n refl r.some
@@ -86,10 +87,10 @@ module _ {window : ℕ} {sets : List ℕ} {bays major side energies₀ : List Fl
       go (suc m) e h = rw e (length_energies z m)
 
   end_is : last.end ≡ need z n
-  end_is = ap (λ (l : Last). l.end) r.done.last_is
+  end_is = ap (λ (l : Stretch). l.end) r.done.last_is
 
   from_is : last.from + length (energies z n) ≡ last.end
-  from_is = omega (arith, ap (λ (l : Last). l.from) r.done.last_is, end_is, block_within z n)
+  from_is = omega (arith, ap (λ (l : Stretch). l.from) r.done.last_is, end_is, block_within z n)
 
   pub last_in_order : last.from ≤ last.end
   last_in_order = omega (arith, from_is)
@@ -103,14 +104,14 @@ module _ {window : ℕ} {sets : List ℕ} {bays major side energies₀ : List Fl
   pub filled_long : length filled ≡ length energies₀
   filled_long = ap length r.done.energies_are ∙ length_over energies₀ 0 (energy_table z n) (omega (arith, length_energy_table z n, need_at n, r.fit.room.energies_fit))
 
-  last_block : part last.from last.end filled ≡ energies z n
-  last_block = ap (part last.from last.end) r.done.energies_are ∙ block_before z n last.from last.end (drop (0 + length (energy_table z n)) energies₀) end_is from_is
+  last_block : part last filled ≡ energies z n
+  last_block = ap (part last) r.done.energies_are ∙ block_before z n last (drop (0 + length (energy_table z n)) energies₀) end_is from_is
 
-  pub last_some : 0 < length (part last.from last.end filled)
+  pub last_some : 0 < length (part last filled)
   last_some = subst (λ m. 0 < m) (sym (ap length last_block ∙ last_size)) (size_some z n (suc (window - 1)) r.fit.room.filled)
 
   -- the least row of the last block is the answer's
-  pub answer_is : (best : Choice) → best ≡ lowest (λ i. record { energy = held_at (part last.from last.end filled) i; who = i }) (length (part last.from last.end filled))
+  pub answer_is : (best : Choice) → best ≡ lowest (λ i. record { energy = held_at (part last filled) i; who = i }) (length (part last filled))
       → best ≡ answer_row z n
   unfolding answer_row
   answer_is best g =

@@ -13,8 +13,7 @@ pub(crate) fn least_row(block: &[f64]) -> Choice
         energy: block[0],
         who: 0,
     };
-    let mut i = 1;
-    while i < block.len() {
+    for i in 1..block.len() {
         choice = ledger_rows::lower(
             choice,
             Choice {
@@ -22,7 +21,6 @@ pub(crate) fn least_row(block: &[f64]) -> Choice
                 who: i,
             },
         );
-        i += 1;
     }
     choice
 }

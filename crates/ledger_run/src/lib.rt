@@ -8,9 +8,9 @@ ghost use Rattle.ledger_run.specs.Run.{LedgerRan};
 mod clear;
 mod least;
 
-use clear::{clear_energies, clear_notes};
+use clear::clear;
 use least::least_row;
-use ledger_row_choice::PAIRS;
+use ledger_row_choice::Bonds;
 use ledger_way_back::{Place, trace};
 
 // The least scan sum, with the ledger filled and the layout written in scan order. An answer that is
@@ -20,31 +20,28 @@ pub fn run(
     window: usize,
     sets: &[u64],
     bays: &[f64],
-    major: &[f64; PAIRS],
-    side: &[f64; PAIRS],
+    bonds: &Bonds,
     order: &mut [u32],
     energies: &mut [f64],
     notes: &mut [u8],
 ) -> f64
     requires fillable { Fillable window sets.now bays.now (length energies.old) (length notes.old) }
     requires sets_nonzero { (0 < length sets.now) × (length order.old ≡ length sets.now) }
-    ensures { let z = run_scan window sets.now bays.now major.now side.now in
+    ensures { let z = run_scan window sets.now bays.now bonds.now in
         let n = length sets.now in
         LedgerRan z n result order.old order.new energies.old energies.new notes.old notes.new }
 {
-    let last = ledger_fill::fill(window, sets, bays, major, side, energies, notes);
-    let from = last.from;
-    let end = last.end;
-    let best = least_row(&energies[from..end]);
+    let last = ledger_fill::fill(window, sets, bays, bonds, energies, notes);
+    let best = least_row(&energies[last.from..last.end]);
     if floats::is_bad(best.energy) {
-        clear_energies(energies, end);
-        clear_notes(notes, end);
+        clear(energies, last.end, 0.0);
+        clear(notes, last.end, 0);
         return best.energy;
     }
     let at = Place {
         row: best.who,
-        rows: end - from,
-        end,
+        rows: last.end - last.from,
+        end: last.end,
     };
     trace(window, sets, notes, at, order);
     best.energy

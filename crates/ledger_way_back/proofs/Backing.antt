@@ -15,7 +15,7 @@ use Rattle.ledger_rows.specs.Blocks.{size, leavers, need}
 use Rattle.ledger_rows.specs.Trace.{below}
 use Rattle.ledger_rows.proofs.Numbering.{size_more, size_leavers}
 use Rattle.ledger_row_choice.specs.Row.{strands_of}
-use Rattle.ledger_fill.specs.Handed.{set_scan}
+use Rattle.ledger_fill.specs.Handed.{no_bonds, set_scan}
 use Rattle.ledger_fill.specs.Bays.{leaving_of}
 use Rattle.ledger_fill.proofs.Agrees.{leaving_is}
 use Rattle.ledger_fill.proofs.Sizes.{need_mono, need_more}
@@ -80,7 +80,7 @@ module _ {window : ℕ} {sets notes : List ℕ} {k : ℕ} {at : Place} (o : OnRo
   position_is = go (get_or notes (need z k + at.row) 0) same_note noted (dec_lt (get_or notes (need z k + at.row) 0) most_strands)
     where
       same : strands_of (leaving_of window sets k) ≡ leavers z (window - 1) k
-      same = leaving_is window sets (λ i. []) [] [] k o.tables.some_window
+      same = leaving_is window sets (λ i. []) no_bonds k o.tables.some_window
 
       go : (s : ℕ) → get_or notes (at.end - at.rows + at.row) 0 ≡ s → below (leavers z (window - 1) k) s < length (leavers z (window - 1) k) → Dec (s < most_strands)
           → length (members (has (leaving_of window sets k)) (get_or notes (at.end - at.rows + at.row) 0)) ≡ below (leavers z (window - 1) k) s
@@ -95,7 +95,7 @@ module _ {window : ℕ} {sets notes : List ℕ} {k : ℕ} {at : Place} (o : OnRo
 
   leaving_few : length (leavers z (window - 1) k) ≤ most_strands
   leaving_few =
-      subst (λ m. length m ≤ most_strands) (leaving_is window sets (λ i. []) [] [] k o.tables.some_window) (length_le (has (leaving_of window sets k)) most_strands)
+      subst (λ m. length m ≤ most_strands) (leaving_is window sets (λ i. []) no_bonds k o.tables.some_window) (length_le (has (leaving_of window sets k)) most_strands)
 
   pub product_few : (p : ℕ) → p ≡ below (leavers z (window - 1) k) (get_or notes (need z k + at.row) 0) → p * w ≤ most_rows * most_strands
   product_few p f = omega (arith, mul-le-mul {n₁ = p} {m₁ = w} {n₂ = most_strands} {m₂ = most_rows} (omega (arith, noted, leaving_few)) width_small)
@@ -110,6 +110,6 @@ module _ {window : ℕ} {sets notes : List ℕ} {k : ℕ} {at : Place} (o : OnRo
       → record { row = p * width + at.row / n; rows = m * width; end = from } ≡ place_of z k (row_back z notes k at.row)
   stepped n p m from width a b c d f =
       let rows : m * width ≡ size z k (suc (window - 1)) =
-      ap₂ (λ (x y : ℕ). x * y) (c ∙ ap length (leaving_is window sets (λ i. []) [] [] k o.tables.some_window)) d ∙ sym (size_leavers z (window - 1) k) in
+      ap₂ (λ (x y : ℕ). x * y) (c ∙ ap length (leaving_is window sets (λ i. []) no_bonds k o.tables.some_window)) d ∙ sym (size_leavers z (window - 1) k) in
       let row : p * width + at.row / n ≡ row_back z notes k at.row = rw (b, d, a) in
       ap₂ (λ (x y : ℕ). record { row = x; rows = y; end = from }) row rows ∙ ap (λ (x : ℕ). record { row = row_back z notes k at.row; rows = size z k (suc (window - 1)); end = x }) f

@@ -21,10 +21,8 @@ fn member(set: u64, p: usize) -> u32
     ensures { result ≡ get_or (strands_of set) p 0 }
 {
     let mut t = sets::next(set, 0);
-    let mut left = p;
-    while 0 < left {
+    for _ in 0..p {
         t = sets::next(set, t + 1);
-        left -= 1;
     }
     t
 }
@@ -52,19 +50,12 @@ fn step_back(window: usize, sets: &[u64], notes: &[u8], k: usize, at: Place) -> 
     let from = at.end - at.rows;
     let place = from + at.row;
     let leaves = ledger_fill::leaving(window, sets, k);
-    let position = sets::position(leaves, noted_strand(notes[place])) as usize;
+    let position = sets::position(leaves, u32::from(notes[place])) as usize;
     Place {
         row: position * width + at.row / count,
         rows: sets::size(leaves) as usize * width,
         end: from,
     }
-}
-
-// A note as a strand's number.
-fn noted_strand(note: u8) -> u32
-    ensures { result ≡ note }
-{
-    note as u32
 }
 
 // Writes, from the last bay to the first, the strands that the notes lead back to from a row of the
@@ -77,9 +68,7 @@ pub fn trace(window: usize, sets: &[u64], notes: &[u8], last: Place, order: &mut
         order.new ≡ in_order (trace_in z notes.now (length sets.now) last.row) }
 {
     let mut at = last;
-    let mut k = sets.len();
-    while 0 < k {
-        k -= 1;
+    for k in (0..sets.len()).rev() {
         order[k] = strand_at(sets, k, at.row);
         at = step_back(window, sets, notes, k, at);
     }

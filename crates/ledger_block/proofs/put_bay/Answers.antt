@@ -12,7 +12,7 @@ overflow_cast-count c = omega (arith, c.size-count.ensures, length_le (has c.arg
 pub loop-q-init : goal.loop-q-init
 loop-q-init c = let a = c.args in (
   c.size-count.ensures,
-  block_starts a.bay a.here.now a.major.now a.side.now a.from a.end a.energies.now a.notes.now c.next-u.result c.requires.nonzero.0 c.requires.writable c.next-u.ensures,
+  block_starts a.bay a.here.now a.bonds.now a.before a.energies.now a.notes.now c.next-u.result c.requires.nonzero.0 c.requires.writable c.next-u.ensures,
 )
 
 pub overflow_cast-u : goal.overflow_cast-u
@@ -29,12 +29,6 @@ following-u-requires c = block_small c.loop-q.invariant.1
 
 pub overflow_add-at : goal.overflow_add-at
 overflow_add-at c = omega (arith, line_writable c.loop-q.invariant.1 c.loop-q-test.true, c.loop-q.invariant.0, energies_kept c.loop-q.invariant.1)
-
-pub overflow_add-q : goal.overflow_add-q
-overflow_add-q c = omega (arith, c.loop-q-test.true, c.requires.writable.small)
-
-pub loop-q-smaller : goal.loop-q-smaller
-loop-q-smaller c = omega (arith, c.loop-q-test.true)
 
 pub loop-q-preserved : goal.loop-q-preserved
 loop-q-preserved c = (

@@ -1,6 +1,5 @@
 -- `ledger_block::put_bay` meets its contract. The invariant: the lines of the first q rows of what stays are written. Assumes nothing.
 use mathlib.Core.Path.{◌≡◌}
-use Prim.Native.Nat.{◌-◌}
 use lib.ListN.{length}
 use Rattle.ledger_row_choice.specs.Row.{strands_of}
 use Rattle.ledger_block.proofs.Blocking.{Blocking}
@@ -8,7 +7,4 @@ use Rattle.ledger_block.proofs.put_bay.Given as goal
 
 abbrev pub invariant-loop-q : goal.invariant-loop-q
 invariant-loop-q l =
-    (l.count ≡ length (strands_of l.bay.set)) × Blocking l.bay l.here l.major l.side l.from l.end l.initial.energies l.energies l.initial.notes l.notes l.u l.at l.q
-
-abbrev pub decreases-loop-q : goal.decreases-loop-q
-decreases-loop-q l = l.bay.width - l.q
+    (l.count ≡ length (strands_of l.bay.set)) × Blocking l.bay l.here l.bonds l.before l.initial.energies l.energies l.initial.notes l.notes l.u l.at l.q

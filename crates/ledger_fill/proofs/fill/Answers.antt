@@ -10,7 +10,7 @@ use Rattle.ledger_fill.proofs.fill.Goals as goal
 
 pub loop-k-init : goal.loop-k-init
 loop-k-init c = let a = c.args in
-    filling_starts a.window a.sets.now a.bays.now a.major.now a.side.now a.energies.now a.notes.now c.requires
+    filling_starts a.window a.sets.now a.bays.now a.bonds.now a.energies.now a.notes.now c.requires
 
 pub bay_at-bay-requires : goal.bay_at-bay-requires
 bay_at-bay-requires c =
@@ -22,17 +22,17 @@ bay_at-bay-requires c =
 pub overflow_mul-at : goal.overflow_mul-at
 overflow_mul-at c = omega (arith, bay_in c.loop-k.invariant c.loop-k-test.true)
 
-pub overflow_add-past : goal.overflow_add-past
-overflow_add-past c = omega (arith, bay_in c.loop-k.invariant c.loop-k-test.true)
+pub overflow_add-here : goal.overflow_add-here
+overflow_add-here c = omega (arith, bay_in c.loop-k.invariant c.loop-k-test.true)
 
 pub offset_bounds-bays-at : goal.offset_bounds-bays-at
 offset_bounds-bays-at c = omega (arith, bay_in c.loop-k.invariant c.loop-k-test.true)
 
-pub slice_bounds-put_bay-end : goal.slice_bounds-put_bay-end
-slice_bounds-put_bay-end c = bay_in c.loop-k.invariant c.loop-k-test.true
+pub slice_bounds-here-end : goal.slice_bounds-here-end
+slice_bounds-here-end c = bay_in c.loop-k.invariant c.loop-k-test.true
 
 pub put_bay-requires : goal.put_bay-requires
-put_bay-requires c = let w : Writable c.bay_at-bay.result c.loop-k.from c.loop-k.end c.loop-k.end (c.bay_at-bay.result.width * length (strands_of c.bay_at-bay.result.set)) (length c.loop-k.energies) (length c.loop-k.notes) = bay_writable c.loop-k.invariant c.loop-k-test.true c.bay_at-bay.ensures in
+put_bay-requires c = let w : Writable c.bay_at-bay.result c.loop-k.last c.loop-k.last.end (c.bay_at-bay.result.width * length (strands_of c.bay_at-bay.result.set)) (length c.loop-k.energies) (length c.loop-k.notes) = bay_writable c.loop-k.invariant c.loop-k-test.true c.bay_at-bay.ensures in
     record {
       nonzero = (
         previous_some c.loop-k.invariant c.loop-k-test.true c.bay_at-bay.ensures,
@@ -51,14 +51,8 @@ put_bay-requires c = let w : Writable c.bay_at-bay.result c.loop-k.from c.loop-k
 pub rows_of-rows-requires : goal.rows_of-rows-requires
 rows_of-rows-requires c = (bay_writable c.loop-k.invariant c.loop-k-test.true c.bay_at-bay.ensures).small
 
-pub overflow_add-end : goal.overflow_add-end
-overflow_add-end c = omega (arith, c.rows_of-rows.ensures, (bay_writable c.loop-k.invariant c.loop-k-test.true c.bay_at-bay.ensures).energies_fit, energies_whole c.loop-k.invariant)
-
-pub overflow_add-k : goal.overflow_add-k
-overflow_add-k c = omega (arith, c.loop-k-test.true)
-
-pub loop-k-smaller : goal.loop-k-smaller
-loop-k-smaller c = omega (arith, c.loop-k-test.true)
+pub overflow_add-last : goal.overflow_add-last
+overflow_add-last c = omega (arith, c.rows_of-rows.ensures, (bay_writable c.loop-k.invariant c.loop-k-test.true c.bay_at-bay.ensures).energies_fit, energies_whole c.loop-k.invariant)
 
 pub loop-k-preserved : goal.loop-k-preserved
 loop-k-preserved c = let wrote = c.put_bay.ensures in

@@ -2,11 +2,12 @@
 use mathlib.Core.List.{[]}
 use native.Mathlib.Omega.{arith}
 use lib.ListN.{length}
+use Rattle.ledger_fill.specs.Handed.{no_bonds}
 use Rattle.ledger_fill.proofs.Sizes.{counting_starts, counting_comes, counting_turns, too_many, counting_ends, bay_small, bay_rows, rows_small}
 use Rattle.ledger_fill.proofs.need.Goals as goal
 
 pub loop-k-init : goal.loop-k-init
-loop-k-init c = counting_starts c.args.window c.args.sets.now (λ k. []) [] [] (length c.args.sets.now) c.requires.window_nonzero c.requires.each_has_strand
+loop-k-init c = counting_starts c.args.window c.args.sets.now (λ k. []) no_bonds (length c.args.sets.now) c.requires.window_nonzero c.requires.each_has_strand
 
 pub bay_at-requires : goal.bay_at-requires
 bay_at-requires c =
@@ -23,12 +24,6 @@ overflow_add-used c = omega (arith, c.loop-k.invariant.few, rows_small (counting
 
 pub returns-then-used-gt-MOST_ROWS : goal.returns-then-used-gt-MOST_ROWS
 returns-then-used-gt-MOST_ROWS c = too_many c.loop-k.invariant c.loop-k-test.true (bay_rows (counting_comes c.loop-k.invariant c.loop-k-test.true) c.bay_at.ensures c.rows_of-rows.result c.rows_of-rows.ensures) c.if-used-gt-MOST_ROWS.true
-
-pub overflow_add-k : goal.overflow_add-k
-overflow_add-k c = omega (arith, c.loop-k-test.true)
-
-pub loop-k-smaller : goal.loop-k-smaller
-loop-k-smaller c = omega (arith, c.loop-k-test.true)
 
 pub loop-k-preserved : goal.loop-k-preserved
 loop-k-preserved c = counting_turns c.loop-k.invariant c.loop-k-test.true (bay_rows (counting_comes c.loop-k.invariant c.loop-k-test.true) c.bay_at.ensures c.rows_of-rows.result c.rows_of-rows.ensures) c.if-used-gt-MOST_ROWS.false

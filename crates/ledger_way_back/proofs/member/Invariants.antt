@@ -1,9 +1,8 @@
--- `ledger_way_back::member` meets its contract. The invariant: how many steps are left to the position. Assumes nothing.
-use Rattle.ledger_way_back.proofs.Stepping.{Stepping}
+-- `ledger_way_back::member` meets its contract. The invariant: how many steps the walk has made. Assumes nothing.
+use Rattle.units.specs.Limits.{most_strands}
+use Rattle.sets.specs.Set.{has}
+use Rattle.sets.proofs.Walk.{Counted}
 use Rattle.ledger_way_back.proofs.member.Given as goal
 
-abbrev pub invariant-loop-left : goal.invariant-loop-left
-invariant-loop-left l = Stepping l.set l.p l.t l.left
-
-abbrev pub decreases-loop-left : goal.decreases-loop-left
-decreases-loop-left l = l.left
+abbrev pub invariant-loop : goal.invariant-loop
+invariant-loop l = Counted (has l.set) most_strands l.counter l.t

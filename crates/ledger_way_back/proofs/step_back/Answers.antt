@@ -45,7 +45,7 @@ bounds-notes-place c = place_in (on c.requires.traceable c.requires.k_in_bounds 
 
 pub overflow_mul-result : goal.overflow_mul-result
 overflow_mul-result c = let o = on c.requires.traceable c.requires.k_in_bounds c.requires.on_block in
-    let p = place o c.leaving-leaves.result c.noted_strand.result c.position-position.result c.leaving-leaves.ensures c.noted_strand.ensures c.position-position.ensures in
+    let p = place o c.leaving-leaves.result c.from.result c.position-position.result c.leaving-leaves.ensures c.from.ensures c.position-position.ensures in
     let few = subst (λ w. c.position-position.result * w ≤ most_rows * most_strands) (sym (width_is o c.size-count.result c.size-count.ensures)) (product_few o c.position-position.result p) in
     omega (arith, few)
 
@@ -54,7 +54,7 @@ nonzero_div-result c = subst (λ n. 0 < n) (sym c.size-count.ensures) (count_som
 
 pub overflow_add-result : goal.overflow_add-result
 overflow_add-result c = let o = on c.requires.traceable c.requires.k_in_bounds c.requires.on_block in
-    let p = place o c.leaving-leaves.result c.noted_strand.result c.position-position.result c.leaving-leaves.ensures c.noted_strand.ensures c.position-position.ensures in
+    let p = place o c.leaving-leaves.result c.from.result c.position-position.result c.leaving-leaves.ensures c.from.ensures c.position-position.ensures in
     let few = subst (λ w. c.position-position.result * w ≤ most_rows * most_strands) (sym (width_is o c.size-count.result c.size-count.ensures)) (product_few o c.position-position.result p) in
     omega (arith, few, row_few o c.size-count.result)
 
@@ -67,6 +67,6 @@ overflow_mul-result-2 c = let o = on c.requires.traceable c.requires.k_in_bounds
 pub returns : goal.returns
 returns c = let a = c.args in
     let o = on c.requires.traceable c.requires.k_in_bounds c.requires.on_block in
-    let p = place o c.leaving-leaves.result c.noted_strand.result c.position-position.result c.leaving-leaves.ensures c.noted_strand.ensures c.position-position.ensures in
+    let p = place o c.leaving-leaves.result c.from.result c.position-position.result c.leaving-leaves.ensures c.from.ensures c.position-position.ensures in
     stepped o c.size-count.result c.position-position.result c.size.result _ _ c.size-count.ensures p
     (c.size.ensures ∙ ap (λ l. length (strands_of l)) c.leaving-leaves.ensures) (width_is o c.size-count.result c.size-count.ensures) (from_is o)

@@ -17,24 +17,6 @@ tracked {window} {sets} {notes} {row} {order} {k} {at} t h =
 pub loop-k-init : goal.loop-k-init
 loop-k-init c = tracking_starts c.args.window c.args.sets.now c.args.notes.now c.args.last c.args.order.now c.requires.on_block.0 c.requires.on_block.1 c.requires.order_len
 
-pub overflow_sub-k : goal.overflow_sub-k
-overflow_sub-k c = omega (arith, c.loop-k-test.true)
-
-pub strand_at-requires : goal.strand_at-requires
-strand_at-requires c =
-    let a = c.args in
-    let inside = tracked_bay a.window a.sets.now a.notes.now c.requires.traceable a.last.row c.loop-k.order (c.loop-k.k - 1) c.loop-k.at (tracked c.loop-k.invariant c.loop-k-test.true) in
-    record {
-      k_in_bounds = inside;
-      nonzero = c.requires.traceable.filled (c.loop-k.k - 1) inside;
-    }
-
-pub bounds-order-k : goal.bounds-order-k
-bounds-order-k c =
-    let a = c.args in
-    let inside = tracked_bay a.window a.sets.now a.notes.now c.requires.traceable a.last.row c.loop-k.order (c.loop-k.k - 1) c.loop-k.at (tracked c.loop-k.invariant c.loop-k-test.true) in
-    omega (arith, inside, c.loop-k.invariant.long)
-
 pub step_back-at-requires : goal.step_back-at-requires
 step_back-at-requires c =
     let a = c.args in
@@ -45,16 +27,10 @@ step_back-at-requires c =
       on_block = (t.place, t.inside);
     }
 
-pub loop-k-smaller : goal.loop-k-smaller
-loop-k-smaller c = omega (arith, c.loop-k-test.true)
-
 pub loop-k-preserved : goal.loop-k-preserved
 loop-k-preserved c = let a = c.args in
     tracking_turns a.window a.sets.now a.notes.now c.requires.traceable a.last.row c.loop-k.order (c.loop-k.k - 1) c.loop-k.at (tracked c.loop-k.invariant c.loop-k-test.true)
     c.strand_at.result c.step_back-at.result c.strand_at.ensures c.step_back-at.ensures
-
-pub shape_of-order : goal.shape_of-order
-shape_of-order c = omega (arith, c.loop-k.invariant.long, c.requires.order_len)
 
 pub returns : goal.returns
 returns c = let a = c.args in

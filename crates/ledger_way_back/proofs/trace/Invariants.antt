@@ -4,6 +4,3 @@ use Rattle.ledger_way_back.proofs.trace.Given as goal
 
 abbrev pub invariant-loop-k : goal.invariant-loop-k
 invariant-loop-k l = Tracking l.window l.sets l.notes l.initial.at.row l.order l.k l.at
-
-abbrev pub decreases-loop-k : goal.decreases-loop-k
-decreases-loop-k l = l.k
