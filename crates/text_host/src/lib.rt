@@ -13,90 +13,55 @@ use std::io::{Error, ErrorKind, Result};
 pub fn arg(rt: &impl Env, place: usize, room: &mut [u8]) -> usize
     ensures { IsPrefixLen result room.new }
 {
-    match rt.arg(place, room) {
-        Ok(n) => n,
-        Err(_) => 0,
-    }
+    rt.arg(place, room).unwrap_or(0)
 }
 
 // Whether an argument is there and as long as a lent slice at most.
 pub fn fits(rt: &impl Env, place: usize, room: &mut [u8]) -> bool {
-    match rt.arg(place, room) {
-        Ok(_) => true,
-        Err(_) => false,
-    }
+    rt.arg(place, room).is_ok()
 }
 
 // Whether no argument stands at a place.
 fn is_missing(rt: &impl Env, place: usize) -> bool {
     let mut room = [0u8; 1];
-    match rt.arg(place, &mut room) {
-        Ok(_) => false,
-        Err(FillError::NotPresent) => true,
-        Err(FillError::TooLong) => false,
-    }
+    matches!(rt.arg(place, &mut room), Err(FillError::NotPresent))
 }
 
 // How many arguments the program was started with, its own name among them.
 pub fn arg_count(rt: &impl Env) -> usize {
-    for i in 0..usize::MAX {
-        if is_missing(rt, i) {
-            return i;
-        }
-    }
-    usize::MAX
+    (0..usize::MAX)
+        .find(|&place| is_missing(rt, place))
+        .unwrap_or(usize::MAX)
 }
 
-// The error of a path that is no text, which names no file here.
-fn no_path() -> Error {
-    Error::from(ErrorKind::InvalidInput)
+// A path as text; a path that is no text names no file here.
+fn path_text(path: &[u8]) -> Result<&str> {
+    str::from_utf8(path).map_err(|_| Error::from(ErrorKind::InvalidInput))
 }
 
 // Opens a file for reading.
 pub fn open_read<R: Files>(rt: &R, path: &[u8]) -> Result<R::File> {
-    match str::from_utf8(path) {
-        Ok(text) => File::open(rt, text),
-        Err(_) => Err(no_path()),
-    }
+    File::open(rt, path_text(path)?)
 }
 
 // Creates a file that is not there yet, for writing.
 pub fn create<R: Files>(rt: &R, path: &[u8]) -> Result<R::File> {
-    match str::from_utf8(path) {
-        Ok(text) => File::create_new(rt, text),
-        Err(_) => Err(no_path()),
-    }
+    File::create_new(rt, path_text(path)?)
 }
 
 // Gives a file another name, in place of a file that had it.
 pub fn rename(rt: &impl Files, from: &[u8], to: &[u8]) -> Result<()> {
-    match str::from_utf8(from) {
-        Ok(old) => rename_text(rt, old, to),
-        Err(_) => Err(no_path()),
-    }
-}
-
-fn rename_text(rt: &impl Files, from: &str, to: &[u8]) -> Result<()> {
-    match str::from_utf8(to) {
-        Ok(new) => fs::rename(rt, from, new),
-        Err(_) => Err(no_path()),
-    }
+    fs::rename(rt, path_text(from)?, path_text(to)?)
 }
 
 // Takes a file away.
 pub fn remove(rt: &impl Files, path: &[u8]) -> Result<()> {
-    match str::from_utf8(path) {
-        Ok(text) => fs::remove_file(rt, text),
-        Err(_) => Err(no_path()),
-    }
+    fs::remove_file(rt, path_text(path)?)
 }
 
 // Where the words for an error end: what std puts behind them is the error's number.
 fn words_length(text: &str) -> usize {
-    match text.find(" (os error ") {
-        Some(place) => place,
-        None => text.len(),
-    }
+    text.find(" (os error ").unwrap_or(text.len())
 }
 
 // Writes a line to standard error: what failed, a colon and the system's words for it.
