@@ -5,6 +5,7 @@ use Rattle.name_base_list.specs.Bases.{base_number, glue_of}
 use Rattle.name_keys.specs.declared.RefOrPair.{RefOrPair}
 use Rattle.name_keys.specs.declared.RefOrPair.TheVariants.{Ref, Pair}
 use Rattle.name_keys.specs.declared.Joined.{Joined}
+use Rattle.name_keys.specs.declared.KeyNames.{KeyNames as LentNames}
 use Rattle.name_keys.specs.declared.Joined.TheVariants.{Glues, Nothing}
 
 -- The keys' names as they are lent: entries 2k and 2k + 1 of the text are those of key k; and the list of bases, which lie in the same text.
@@ -18,14 +19,13 @@ pub record KeyNames : Type 0 where
 abbrev pub key_names : (text offsets paired bases : List ℕ) → (count : ℕ) → KeyNames
 key_names text offsets paired bases count = record { text = text; offsets = offsets; paired = paired; bases = bases; count = count }
 
+-- as they are lent
+abbrev pub key_names_of : LentNames → KeyNames
+key_names_of lent = key_names lent.names.text.now lent.names.offsets.now lent.paired.now lent.bases.now lent.count
+
 -- the entries of key k's names: the second counts where the key is paired
 abbrev pub names_at : (paired : List ℕ) → ℕ → RefOrPair
 names_at paired k = cond (eqb (get_or paired k 0) 1) (Pair (k + k) (k + k + 1)) (Ref (k + k))
-
--- the names are entries of a text with this many offsets
-abbrev pub are_entries : (offsets : ℕ) → RefOrPair → Bool
-are_entries offsets (Ref name) = ltb (name + 1) offsets
-are_entries offsets (Pair first second) = ltb (first + 1) offsets && ltb (second + 1) offsets
 
 -- its base is in the list
 abbrev pub is_registered : (text bases : List ℕ) → (count : ℕ) → (name : List ℕ) → Bool
