@@ -47,4 +47,4 @@ module _ (ok : List ℕ → Bool) (value : List ℕ → ℕ) (text : List ℕ) (
 
 -- the answer of a walk that has ended
 abbrev pub count_of : Walk → Count
-count_of w = cond w.whole (Count.Some w.n) Count.None
+count_of w = cond w.whole (Count.Of w.n) Count.Unreadable

@@ -7,10 +7,10 @@ use Rattle.case_lists.proofs.walk.number_to.Goals as goal
 
 -- the limit is no more than 2^64
 pub returns-then-x-most : goal.returns-then-x-most
-returns-then-x-most c = below_of (c.args.most + 1) c.args.value.now (omega (arith, c.ranges.most)) c.in-Of.x (sym c.number.ensures ∙ c.in-Of.is) (omega (arith, c.if-x-most.true))
+returns-then-x-most c = below_of (c.args.most + 1) c.args.value.now (omega (arith, c.ranges.most)) c.in-Some.x (sym c.number.ensures ∙ c.in-Some.is) (omega (arith, c.if-x-most.true))
 
 pub returns-else-x-most : goal.returns-else-x-most
-returns-else-x-most c = below_over (c.args.most + 1) c.args.value.now (omega (arith, c.ranges.most)) c.in-Of.x (sym c.number.ensures ∙ c.in-Of.is) (omega (arith, c.if-x-most.false))
+returns-else-x-most c = below_over (c.args.most + 1) c.args.value.now (omega (arith, c.ranges.most)) c.in-Some.x (sym c.number.ensures ∙ c.in-Some.is) (omega (arith, c.if-x-most.false))
 
-pub returns-in-Unreadable : goal.returns-in-Unreadable
-returns-in-Unreadable c = below_none (c.args.most + 1) c.args.value.now (omega (arith, c.ranges.most)) (sym c.number.ensures ∙ c.in-Unreadable.is)
+pub returns-in-None : goal.returns-in-None
+returns-in-None c = below_none (c.args.most + 1) c.args.value.now (omega (arith, c.ranges.most)) (sym c.number.ensures ∙ c.in-None.is)

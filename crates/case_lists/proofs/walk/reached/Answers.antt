@@ -2,8 +2,8 @@
 
 use Rattle.case_lists.proofs.walk.reached.Goals as goal
 
-pub returns-in-Of : goal.returns-in-Of
-returns-in-Of c = rw c.in-Of.is
+pub returns-in-Some : goal.returns-in-Some
+returns-in-Some c = rw c.in-Some.is
 
-pub returns-in-Unreadable : goal.returns-in-Unreadable
-returns-in-Unreadable c = rw c.in-Unreadable.is
+pub returns-in-None : goal.returns-in-None
+returns-in-None c = rw c.in-None.is

@@ -9,9 +9,9 @@ returns-then-word-eq0 c = plain_empty c.args.word.now c.if-word-eq0.true
 pub returns-then-word-eq48 : goal.returns-then-word-eq48
 returns-then-word-eq48 c = plain_zero c.args.word.now c.if-word-eq48.true
 
-pub returns-in-Of : goal.returns-in-Of
-returns-in-Of c = c.small_number.ensures
-    ∙ plain_read c.args.word.now c.if-word-eq0.false c.if-word-eq48.false c.in-Of.n (sym c.whole.ensures ∙ c.in-Of.is)
+pub returns-in-Some : goal.returns-in-Some
+returns-in-Some c = c.small_number.ensures
+    ∙ plain_read c.args.word.now c.if-word-eq0.false c.if-word-eq48.false c.in-Some.n (sym c.whole.ensures ∙ c.in-Some.is)
 
-pub returns-in-Unreadable : goal.returns-in-Unreadable
-returns-in-Unreadable c = plain_not c.args.word.now c.if-word-eq0.false c.if-word-eq48.false (sym c.whole.ensures ∙ c.in-Unreadable.is)
+pub returns-in-None : goal.returns-in-None
+returns-in-None c = plain_not c.args.word.now c.if-word-eq0.false c.if-word-eq48.false (sym c.whole.ensures ∙ c.in-None.is)

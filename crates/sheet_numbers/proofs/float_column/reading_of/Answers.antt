@@ -3,9 +3,9 @@ use lib.Ieee.{of_bits, round}
 use Rattle.units.specs.Decimals.{decimal}
 use Rattle.sheet_numbers.proofs.float_column.reading_of.Goals as goal
 
-pub returns-in-Of : goal.returns-in-Of
-returns-in-Of c = rw c.in-Of.is
+pub returns-in-Some : goal.returns-in-Some
+returns-in-Some c = rw c.in-Some.is
 
-pub returns-in-Unreadable : goal.returns-in-Unreadable
+pub returns-in-None : goal.returns-in-None
 unfolding of_bits decimal round
-returns-in-Unreadable c = rw c.in-Unreadable.is
+returns-in-None c = rw c.in-None.is
