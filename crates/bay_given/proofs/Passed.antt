@@ -1,8 +1,7 @@
 -- What is known of a system and its constraints that passed the tests. Assumes nothing.
 use Prim.Native.Nat.{ℕ, ◌*◌, ◌≤◌}
-use mathlib.Core.Path.{◌≡◌, refl, sym, ◌∙◌, ap, subst}
+use mathlib.Core.Path.{◌≡◌, sym, ◌∙◌, ap}
 use mathlib.Core.Bool.{true, not, ◌&&◌}
-use mathlib.Core.List.{List, []}
 use native.Mathlib.Nat.{mul-le-mul}
 use native.Mathlib.Omega.{arith}
 use lib.Dec.{eqb}
@@ -11,21 +10,12 @@ use borrow.Author.Tests.{eqb-true, not-false}
 use Rattle.units.specs.Limits.{most_side}
 use Rattle.units.specs.Refusals.{passes}
 use Rattle.units.proofs.Tests.{both}
-use Rattle.units.proofs.Verdicts.{no_fault, first_passes, rest_passes, Tabled, tabled_if, tabled_then}
+use Rattle.units.proofs.Verdicts.{no_fault, first_passes, rest_passes}
 use Rattle.bay_system.specs.System.{System, bays, system_verdict}
 use Rattle.bay_system.proofs.Fine.{Fine, fine}
-use Rattle.bay_system.proofs.Tabled.{system_tabled}
-use Rattle.bay_lists.specs.declared.ConstraintKind.{ConstraintKind}
-use Rattle.bay_lists.specs.Lists.{Constraints, constraints, by_offsets, offsets_read, offsets_shaped}
-use Rattle.bay_lists.proofs.Ends.{read_back}
+use Rattle.bay_lists.specs.Lists.{Constraints, offsets_shaped}
 use Rattle.bay_legal_at.proofs.Sound.{sound}
 use Rattle.bay_given.specs.Given.{shape_verdict, given_verdict, Given}
-
--- each refusal has the values of its row
-pub given_tabled : (s : System) (lent : ℕ) (c : Constraints) → Tabled (given_verdict s lent c)
-given_tabled s lent c =
-    tabled_then (system_verdict s) (shape_verdict s.sizes lent c) (system_tabled s)
-    (tabled_if (not (eqb lent (bays s.sizes) && offsets_shaped (bays s.sizes) c)) 5 [] refl)
 
 module _ (s : System) (lent : ℕ) (c : Constraints) (p : given_verdict s lent c ≡ passes) where
   pub system_passes : system_verdict s ≡ passes
@@ -38,7 +28,7 @@ module _ (s : System) (lent : ℕ) (c : Constraints) (p : given_verdict s lent c
   shape =
       let test = eqb lent (bays s.sizes) in
       let rest = offsets_shaped (bays s.sizes) c in
-      let two = both test rest (not-false (test && rest) (no_fault (not (test && rest)) 5 [] (rest_passes (system_verdict s) (shape_verdict s.sizes lent c) p))) in
+      let two = both test rest (not-false (test && rest) (no_fault (not (test && rest)) _ (rest_passes (system_verdict s) (shape_verdict s.sizes lent c) p))) in
       (eqb-true lent (bays s.sizes) two.0, two.1)
 
   -- the lent slice has a place for each bay
@@ -52,21 +42,7 @@ module _ (s : System) (lent : ℕ) (c : Constraints) (p : given_verdict s lent c
   pub few_bays : length s.scaffold ≤ most_side * most_side
   few_bays = let sizes = is_fine.shape.sizes in omega (arith, is_fine.shape.scaffold, mul-le-mul sizes.rows sizes.cols)
 
-  pub asked : Given s.sizes s.strand_glues s.scaffold s.delta_g s.entropy s.seeds c
+  pub asked : Given s c
   asked =
       let f = is_fine in
       record { grid = sound s system_passes; shaped = shaped; few_rows = f.shape.sizes.rows; few_cols = f.shape.sizes.cols; bay_count = f.shape.scaffold }
-
--- the constraints as they are lent, and as their readers take them
-module _ (s : System) (lent : ℕ) (kind : ConstraintKind) (offsets tiles : List ℕ) (p : given_verdict s lent (constraints kind offsets tiles) ≡ passes)
-    {read : List ℕ} (r : read ≡ offsets_read kind offsets)
-  where
-    pub as_read : by_offsets read tiles ≡ constraints kind offsets tiles
-    as_read =
-        ap (λ (o : List ℕ). by_offsets o tiles) r
-        ∙ read_back (length s.scaffold) kind offsets tiles (shaped s lent (constraints kind offsets tiles) p)
-
-    pub asks : Given s.sizes s.strand_glues s.scaffold s.delta_g s.entropy s.seeds (by_offsets read tiles)
-    asks =
-        subst (Given s.sizes s.strand_glues s.scaffold s.delta_g s.entropy s.seeds) (sym as_read)
-        (asked s lent (constraints kind offsets tiles) p)
