@@ -1,15 +1,12 @@
 -- `run_tables::bonds_of::fill_bonds` meets its contract. The invariant: the first i pairs are written. Assumes nothing.
-use Prim.Native.Nat.{ℕ, ◌-◌, ◌/◌, ◌%◌, ◌≤◌}
+use Prim.Native.Nat.{ℕ, ◌/◌, ◌%◌}
 use mathlib.Core.Path.{◌≡◌}
-use lib.ListN.{length, take}
+use lib.ListN.{take}
 use Rattle.units.specs.Limits.{most_strands}
+use Rattle.bay_system.specs.System.{system_of}
 use Rattle.ledger_rows.specs.Blocks.{tab}
 use Rattle.run_tables.specs.Tables.{pair_energy}
 use Rattle.run_tables.proofs.bonds_of.fill_bonds.Given as goal
 
 abbrev pub invariant-loop-i : goal.invariant-loop-i
-invariant-loop-i l =
-    (l.i ≤ length l.table) × (take l.i l.table ≡ tab (λ (j : ℕ). pair_energy l.z l.strand_glues l.delta_g l.entropy l.north_south (j % most_strands) (j / most_strands)) l.i) × (length l.table ≡ length l.initial.table)
-
-abbrev pub decreases-loop-i : goal.decreases-loop-i
-decreases-loop-i l = length l.initial.table - l.i
+invariant-loop-i l = take l.i l.table ≡ tab (λ (j : ℕ). pair_energy (system_of l.system) l.north_south (j % most_strands) (j / most_strands)) l.i
