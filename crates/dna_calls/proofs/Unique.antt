@@ -8,10 +8,10 @@ use Rattle.dna_calls.proofs.hundredths.string_dna_hundredths.Kinds as hundredths
 use Rattle.dna_calls.proofs.hundredths.string_dna_hundredths.Reads as hundredths
 
 pub string_dna_dg_ds_lem : OneAnswer 1 dg-ds-kinds.ps dg-ds-kinds.r dg-ds.Post
-string_dna_dg_ds_lem κs input a b at_a at_b p q = one_answer p.1 q.1
+string_dna_dg_ds_lem κs input a b at_a at_b p q = one_answer p q
 
 pub string_dna_delta_g_lem : OneAnswer 1 delta-g-kinds.ps delta-g-kinds.r delta_g.Post
-string_dna_delta_g_lem κs input a b at_a at_b p q = one_answer p.1 q.1
+string_dna_delta_g_lem κs input a b at_a at_b p q = one_answer p q
 
 pub string_dna_hundredths_lem : OneAnswer 1 hundredths-kinds.ps hundredths-kinds.r hundredths.Post
-string_dna_hundredths_lem κs input a b at_a at_b p q = one_answer p.1 q.1
+string_dna_hundredths_lem κs input a b at_a at_b p q = one_answer p q

@@ -1,15 +1,12 @@
 -- The rules' starred cases of sequences, as a table of what the definitions give and what the rules print. Assumes nothing.
-use Rattle.std.specs.Prelude.{ℕ, List, [], ◌∷◌, pos, neg_ℤ, Float}
+use Rattle.std.specs.Prelude.{ℕ, ℤ, List, [], ◌∷◌, Result, Ok, Err, pos, neg_ℤ, Float}
 use Rattle.std.specs.Float.{binary64}
 use Rattle.std.specs.Float.Ieee.{of_bits}
-use Rattle.units.specs.declared.BaseEnergyAnswer.{BaseEnergyAnswer}
-use Rattle.units.specs.declared.BaseEnergyAnswer.TheVariants.{Found}
-use Rattle.units.specs.declared.HundredthsAnswer.{HundredthsAnswer}
+use Rattle.units.specs.declared.BaseEnergy.{BaseEnergy}
+use Rattle.units.specs.declared.refusal.Refusal.{Refusal}
+use Rattle.units.specs.declared.refusal.Refusal.TheVariants.{LoopLength}
 use Rattle.units.specs.Decimals.{plus}
-use Rattle.units.specs.Refusals.{passes, refuses}
-use Rattle.units.specs.Answers.{base_energy_answer, hundredths_answer}
 use Rattle.dna_letters.specs.Bases.{base_at}
-use Rattle.dna_steps.specs.Steps.{no_energy}
 use Rattle.dna_mismatches.specs.Mismatches.{single_mismatch_penalty}
 use Rattle.dna_calls.specs.Hundredths.{string_dna_hundredths}
 use Rattle.dna_pairs.specs.Pair.{sequence_pair_dg_ds}
@@ -17,8 +14,8 @@ use Rattle.dna_pairs.specs.Pair.{sequence_pair_dg_ds}
 -- what a case is about
 pub data Outcome : Type 0 where
   penalty : Float → Outcome
-  pair : BaseEnergyAnswer → Outcome
-  hundredths : HundredthsAnswer → Outcome
+  pair : Result BaseEnergy Refusal → Outcome
+  hundredths : Result ℤ Refusal → Outcome
 
 -- what the definitions give, and what is printed
 pub record Case : Type 0 where
@@ -44,7 +41,7 @@ penalty_at a b i j = penalty (single_mismatch_penalty (base_at a i) (base_at a j
 
 -- a pair's answer with this ΔG, by its bits in the Rust's answer, and no ΔS
 abbrev answers : ℕ → Outcome
-answers bits = pair (Found (record { dg = of_bits binary64 bits; ds = plus 0 1 }))
+answers bits = pair (Ok (record { dg = of_bits binary64 bits; ds = plus 0 1 }))
 
 unfoldable pub starred : List Case
 starred =
@@ -54,9 +51,9 @@ starred =
     ∷ record { given = pair (sequence_pair_dg_ds (A ∷ G ∷ G ∷ A ∷ []) (T ∷ T ∷ T ∷ T ∷ [])); printed = answers 0x3ff0_cccc_cccc_cccd }
     ∷ record {
       given = pair (sequence_pair_dg_ds (A ∷ G ∷ G ∷ A ∷ A ∷ []) (T ∷ T ∷ T ∷ T ∷ T ∷ []));
-      printed = pair (base_energy_answer (refuses 14 (2 ∷ [])) no_energy);
+      printed = pair (Err (LoopLength 2));
     }
-    ∷ record { given = hundredths (string_dna_hundredths (A ∷ A ∷ [])); printed = hundredths (hundredths_answer passes (pos 101)) }
-    ∷ record { given = hundredths (string_dna_hundredths (G ∷ C ∷ [])); printed = hundredths (hundredths_answer passes (neg_ℤ (pos 28))) }
-    ∷ record { given = hundredths (string_dna_hundredths (A ∷ C ∷ [])); printed = hundredths (hundredths_answer passes (pos 57)) }
+    ∷ record { given = hundredths (string_dna_hundredths (A ∷ A ∷ [])); printed = hundredths (Ok (pos 101)) }
+    ∷ record { given = hundredths (string_dna_hundredths (G ∷ C ∷ [])); printed = hundredths (Ok (neg_ℤ (pos 28))) }
+    ∷ record { given = hundredths (string_dna_hundredths (A ∷ C ∷ [])); printed = hundredths (Ok (pos 57)) }
     ∷ []

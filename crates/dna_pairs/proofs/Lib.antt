@@ -1,2 +1,0 @@
-pub mod Refused
-pub mod Unique
