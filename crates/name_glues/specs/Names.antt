@@ -1,5 +1,6 @@
 -- Names as entries: a text, where each entry begins and ends in it, and which are there. Assumes nothing.
 use Rattle.std.specs.Prelude.{ℕ, ◌+◌, ◌≡◌, Bool, true, List, eqb, length, get_or}
+use Rattle.text_entries.specs.declared.Names.{Names}
 use Rattle.text_entries.specs.Entries.{entry_of, offsets_fit}
 
 pub record GlueNames : Type 0 where
@@ -9,6 +10,10 @@ pub record GlueNames : Type 0 where
 
 abbrev pub glue_names : (text offsets present : List ℕ) → GlueNames
 glue_names text offsets present = record { text = text; offsets = offsets; present = present }
+
+-- names as they are lent
+abbrev pub names_of : Names → GlueNames
+names_of names = glue_names names.text.now names.offsets.now names.present.now
 
 -- the name of entry i; one of no bytes is a real name
 abbrev pub name_at : GlueNames → ℕ → List ℕ

@@ -1,5 +1,6 @@
 -- Names with two or more stars among those of the scaffold. Assumes nothing.
-use Rattle.std.specs.Prelude.{ℕ, ◌+◌, Bool, ◌&&◌, [], ◌∷◌, leb, ltb}
+use Rattle.std.specs.Prelude.{ℕ, ◌+◌, Bool, ◌&&◌, leb, ltb}
+use Rattle.units.specs.declared.refusal.Refusal.TheVariants.{Starred}
 use Rattle.units.specs.Refusals.{Verdict, refuse_if}
 use Rattle.text_entries.specs.InOrder.{first_from}
 use Rattle.name_stars.specs.Stars.{star_count}
@@ -15,4 +16,4 @@ first_starred n from bays = first_from (λ bay. is_starred n (from + bay)) 0 bay
 
 -- 16, with the bay: a scaffold name ends in two or more stars
 abbrev pub stars_verdict : GlueNames → (from bays : ℕ) → Verdict
-stars_verdict n from bays = refuse_if (ltb (first_starred n from bays) bays) 16 (first_starred n from bays ∷ [])
+stars_verdict n from bays = refuse_if (ltb (first_starred n from bays) bays) (Starred (first_starred n from bays))
