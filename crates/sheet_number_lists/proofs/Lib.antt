@@ -1,3 +1,3 @@
-pub mod Cuts
+pub mod Words
 pub mod Numbers
 pub mod Turns

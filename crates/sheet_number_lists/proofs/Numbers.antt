@@ -1,65 +1,46 @@
--- Laws of a word that is a number: what each test that the code makes says of it. Assumes nothing.
-use Rattle.std.proofs.Common.{Some, None}
-use Prim.Native.Nat.{ℕ, ◌^◌, ◌≤◌, ◌<◌}
-use mathlib.Core.Bool.{Bool, true, false, ◌&&◌, ◌||◌}
+-- A word that is a number, by the tests that the code makes. Assumes nothing.
+use Prim.Native.Nat.{ℕ, suc, ◌^◌}
+use mathlib.Core.Bool.{Bool, true, false, cond, not, ◌&&◌, ◌||◌}
 use mathlib.Core.List.{List, [], ◌∷◌}
 use mathlib.Core.Path.{◌≡◌, refl}
 use native.Mathlib.Omega.{arith}
-use borrow.Author.Tests.{le-leb, lt-ltb, le-ltb, eq-eqb, ne_eqb, ltb-false}
+use borrow.Author.Tests.{le-leb, ne_eqb, ltb-true, ltb-false}
 use lib.Dec.{eqb, ltb}
 use lib.ListN.{length, get_or}
-use Rattle.text_digits.specs.Digits.{digit, all_digits, worth, whole_of}
-use Rattle.units.proofs.Tests.{and_false, and_left}
-use Rattle.text_digits.proofs.Worth.{read_of, read_none}
+use Rattle.std.specs.Prelude.{Option, Some, None}
+use Rattle.text_digits.specs.Digits.{all_digits, worth, whole_of}
 use Rattle.sheet_number_lists.specs.NumberLists.{is_plain_number, value_of}
-use Rattle.sheet_number_lists.specs.Counts.{plain_number, small_number}
-use Rattle.sheet_number_lists.specs.declared.plain.PlainNumber.{PlainNumber}
+use Rattle.sheet_number_lists.specs.Counts.{plain_number}
 
-or_true : (t : Bool) → t || true ≡ true
-or_true true = refl
-or_true false = refl
+-- a number where it is below 2^32
+abbrev pub small : Option ℕ → Option ℕ
+small (Some n) = cond (ltb n (2 ^ 32)) (Some n) None
+small None = None
 
-abbrev none : PlainNumber
-none = record { sound = false; value = 0 }
+abbrev plain : Bool → ℕ → Option ℕ
+plain is n = cond is (Some (cond is n 0)) None
 
-pub small_below : (n : ℕ) → n < 2 ^ 32 → ◌≡◌ {A = PlainNumber} (record { sound = true; value = n }) (small_number n)
-small_below n h = rw (lt-ltb n (2 ^ 32) h)
+small_whole : (d : Bool) (n : ℕ) → plain (d && ltb n (2 ^ 32)) n ≡ small (cond (d && ltb n (2 ^ 64)) (Some n) None)
+small_whole false n = refl
+small_whole true n = go (ltb n (2 ^ 32)) refl (ltb n (2 ^ 64)) refl
+  where
+    go : (s : Bool) → ltb n (2 ^ 32) ≡ s → (t : Bool) → ltb n (2 ^ 64) ≡ t → plain s n ≡ small (cond t (Some n) None)
+    go true h true k = rw h refl
+    go false h true k = rw h refl
+    go true h false k = let a = ltb-true n (2 ^ 32) h in let b = ltb-false n (2 ^ 64) k in absurd (omega arith)
+    go false h false k = refl
 
-pub small_not : (n : ℕ) → 2 ^ 32 ≤ n → none ≡ small_number n
-small_not n h = rw (le-ltb n (2 ^ 32) h)
-
-pub plain_empty : (w : List ℕ) → length w ≡ 0 → none ≡ plain_number w
-unfolding is_plain_number value_of
-plain_empty [] e = refl
-plain_empty (x ∷ w) e = absurd (omega arith)
-
--- a 0 in front is a number by itself alone
-pub plain_zero : (w : List ℕ) → get_or w 0 0 ≡ 48 → ◌≡◌ {A = PlainNumber} (record { sound = eqb (length w) 1; value = 0 }) (plain_number w)
-unfolding is_plain_number value_of all_digits worth digit
-plain_zero [] e = absurd (omega arith)
-plain_zero (x ∷ []) e = rw e
-plain_zero (x ∷ y ∷ w) e =
-    let long : eqb (length (x ∷ y ∷ w)) 1 ≡ false = ne_eqb (length (x ∷ y ∷ w)) 1 (λ (q : length (x ∷ y ∷ w) ≡ 1). omega arith) in
-    rw (eq-eqb x 48 e, long, and_false, and_false)
-
-module _ (w : List ℕ) (some : length w ≡ 0 → ⊥) (other : get_or w 0 0 ≡ 48 → ⊥) where
-  shape : is_plain_number w ≡ all_digits 10 w && ltb (worth 10 0 w) (2 ^ 32)
-  unfolding is_plain_number
-  shape = rw (le-leb 1 (length w) (omega arith), ne_eqb (get_or w 0 0) 48 other, or_true)
-
-  pub plain_read : (n : ℕ) → whole_of 10 w ≡ Some n → small_number n ≡ plain_number w
-  unfolding whole_of value_of
-  plain_read n e =
-      let r = read_of (all_digits 10 w && ltb (worth 10 0 w) (2 ^ 64)) (worth 10 0 w) n e in
-      rw (shape, and_left (all_digits 10 w) (ltb (worth 10 0 w) (2 ^ 64)) r.0, r.1)
-
-  pub plain_not : whole_of 10 w ≡ None → none ≡ plain_number w
-  unfolding whole_of value_of
-  plain_not e = go (all_digits 10 w) refl (read_none (all_digits 10 w && ltb (worth 10 0 w) (2 ^ 64)) (worth 10 0 w) e)
-    where
-      go : (t : Bool) → all_digits 10 w ≡ t → t && ltb (worth 10 0 w) (2 ^ 64) ≡ false → none ≡ plain_number w
-      go true d k =
-          let past = ltb-false (worth 10 0 w) (2 ^ 64) k in
-          let over : 2 ^ 32 ≤ worth 10 0 w = omega arith in
-          rw (shape, d, le-ltb (worth 10 0 w) (2 ^ 32) over)
-      go false d k = rw (shape, d)
+-- no number is empty or has a 0 in front of another digit; any other text is read as digits
+pub plain_by : (w : List ℕ)
+    → plain_number w ≡ cond (eqb (length w) 0) None (cond (eqb (length w) 1) (small (whole_of 10 w)) (cond (eqb (get_or w 0 0) 48) None (small (whole_of 10 w))))
+unfolding is_plain_number value_of whole_of
+plain_by [] = refl
+plain_by (x ∷ w) =
+    rw (ne_eqb (suc (length w)) 0 (λ (e : suc (length w) ≡ 0). omega arith), le-leb 1 (suc (length w)) (omega arith)) (go (eqb (suc (length w)) 1) (eqb x 48) (all_digits 10 (x ∷ w)) (worth 10 0 (x ∷ w)))
+  where
+    go : (one zero d : Bool) (n : ℕ) → plain (d && ((one || not zero) && ltb n (2 ^ 32))) n
+        ≡ cond one (small (cond (d && ltb n (2 ^ 64)) (Some n) None)) (cond zero None (small (cond (d && ltb n (2 ^ 64)) (Some n) None)))
+    go true zero d n = small_whole d n
+    go false false d n = small_whole d n
+    go false true true n = refl
+    go false true false n = refl

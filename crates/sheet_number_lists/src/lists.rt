@@ -4,51 +4,33 @@ ghost use Rattle.text_put.specs.Puts.{Put};
 ghost use Rattle.sheet_number_lists.specs.NumberLists.{list_in};
 ghost use Rattle.sheet_number_lists.specs.Counts.{list_count};
 
-use crate::ListCount;
-use crate::plain::{number_in, word_end};
-use text_fronts::least;
+use crate::plain::plain_number;
 
-// Whether a content is a list, and of how many numbers.
-pub fn count_numbers(content: &[u8]) -> ListCount
+// How many numbers a content has, if it is a list.
+pub fn count_numbers(content: &[u8]) -> Option<usize>
     ensures { result ≡ list_count content.now }
 {
     let mut count = 0;
-    if content.len() == 0 {
-        return ListCount {
-            sound: true,
-            count: 0,
-        };
+    if content.is_empty() {
+        return Some(count);
     }
-    let mut at = 0;
-    while at <= content.len() {
-        let end = word_end(content, at);
-        let number = number_in(content, at, end);
-        if !number.sound {
-            return ListCount {
-                sound: false,
-                count: 0,
-            };
-        }
+    for word in content.split(|&b| b == b' ') {
+        plain_number(word)?;
         count += 1;
-        at = end + 1;
     }
-    ListCount { sound: true, count }
+    Some(count)
 }
 
 // Puts the numbers of a content into `tiles` from `at` on, as far as they fit, and answers the next place.
 pub fn put_list(content: &[u8], tiles: &mut [u32], at: usize) -> usize
     ensures { Put tiles.old at (list_in content.now) result tiles.new }
 {
-    let mut next = least(tiles.len(), at);
-    if content.len() == 0 {
+    let mut next = at.min(tiles.len());
+    if content.is_empty() {
         return next;
     }
-    let mut from = 0;
-    while from <= content.len() {
-        let to = word_end(content, from);
-        let number = number_in(content, from, to);
-        next = put_tile(tiles, next, number.value);
-        from = to + 1;
+    for word in content.split(|&b| b == b' ') {
+        next = put_tile(tiles, next, plain_number(word).unwrap_or(0));
     }
     next
 }

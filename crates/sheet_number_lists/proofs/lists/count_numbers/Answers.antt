@@ -1,47 +1,43 @@
--- `lists::count_numbers` meets its contract. The loop's invariant is what `Counting` says of the words before `at`. Assumes nothing.
-use native.Mathlib.Omega.{arith}
-use borrow.Author.Tests.{not-true, not-false}
-use Rattle.sheet_number_lists.proofs.Cuts.{end_within}
+-- `lists::count_numbers` meets its contract. Assumes nothing.
+use Prim.Native.Nat.{ℕ}
+use mathlib.Core.Path.{refl, sym, ◌∙◌}
+use lib.Dec.{eqb}
+use Rattle.std.proofs.Common.{arith, rules, tests, length}
+use Rattle.std.proofs.lemmas.List.{length_push}
+use Rattle.std.proofs.lemmas.Iterator.Consumers.{YieldsList-turn, YieldsList-end}
+use Rattle.std.proofs.lemmas.Iterator.Splits.{YieldsList-from_slice_split}
 use Rattle.sheet_number_lists.proofs.Turns.{no_count, counting_starts, counting_stops, counting_goes_on, counting_ends}
 use Rattle.sheet_number_lists.proofs.lists.count_numbers.Goals as goal
 
-pub returns-then-content-eq0 : goal.returns-then-content-eq0
-returns-then-content-eq0 c = no_count c.args.content.now c.if-content-eq0.true
+pub returns-then-is_empty : goal.returns-then-is_empty
+returns-then-is_empty c = no_count c.args.content.now (search rules)
 
-pub loop-at-init : goal.loop-at-init
-loop-at-init c = counting_starts c.args.content.now c.if-content-eq0.false
+pub loop-word-init : goal.loop-word-init
+loop-word-init c = record { counted = refl; words = counting_starts c.args.content.now (search rules) }
 
-pub number_in-number-requires : goal.number_in-number-requires
-number_in-number-requires c = let e = c.word_end-end.ensures in
-    let within = end_within c.args.content.now c.loop-at.at c.loop-at-test.true in
-    (omega arith, omega arith)
+pub returns-in_err-plain_number : goal.returns-in_err-plain_number
+returns-in_err-plain_number c =
+    let t = c.args.content.now in
+    let s = c.loop-word in
+    let w = c.in-Some.word in
+    let turn = YieldsList-turn (YieldsList-from_slice_split _ (λ (b : ℕ). eqb b 32) t (cc) (cc) (cc) (λ x b q k. search (rules, tests))) s.yielded _ s.yielded_by _ _ w c.in-Some.is c.next.ensures.steps in
+    c.from_residual.ensures ∙ counting_stops t (length s.yielded) s.invariant.words w.now turn.0 turn.1 (sym c.plain_number.ensures ∙ c.in_err-plain_number.was)
 
-pub returns-then-not-number : goal.returns-then-not-number
-returns-then-not-number c = let t = c.args.content.now in
-    counting_stops t c.loop-at.at c.loop-at.count c.loop-at.invariant c.word_end-end.result c.loop-at-test.true c.word_end-end.ensures
-    c.number_in-number.result c.number_in-number.ensures (not-true c.number_in-number.result.sound c.if-not-number.true)
-
-pub overflow_add-count : goal.overflow_add-count
-overflow_add-count c = let t = c.args.content.now in
-    let few = c.loop-at.invariant.few in
-    omega (arith, c.loop-at-test.true)
-
-pub overflow_add-at : goal.overflow_add-at
-overflow_add-at c = let t = c.args.content.now in
-    let e = c.word_end-end.ensures in
-    let within = end_within t c.loop-at.at c.loop-at-test.true in
-    omega arith
-
-pub loop-at-smaller : goal.loop-at-smaller
-loop-at-smaller c = let t = c.args.content.now in
-    let e = c.word_end-end.ensures in
-    let here = c.loop-at-test.true in
-    omega arith
-
-pub loop-at-preserved : goal.loop-at-preserved
-loop-at-preserved c = let t = c.args.content.now in
-    counting_goes_on t c.loop-at.at c.loop-at.count c.loop-at.invariant c.word_end-end.result c.loop-at-test.true c.word_end-end.ensures
-    c.number_in-number.result c.number_in-number.ensures (not-false c.number_in-number.result.sound c.if-not-number.false)
+pub loop-word-preserved : goal.loop-word-preserved
+loop-word-preserved c =
+    let t = c.args.content.now in
+    let s = c.loop-word in
+    let w = c.in-Some.word in
+    let turn = YieldsList-turn (YieldsList-from_slice_split _ (λ (b : ℕ). eqb b 32) t (cc) (cc) (cc) (λ x b q k. search (rules, tests))) s.yielded _ s.yielded_by _ _ w c.in-Some.is c.next.ensures.steps in
+    let more = length_push s.yielded w in
+    record {
+      counted = omega (arith, s.invariant.counted);
+      words = rw more (counting_goes_on t (length s.yielded) s.invariant.words w.now turn.0 turn.1 c.in_ok-plain_number.field-0 (sym c.plain_number.ensures ∙ c.in_ok-plain_number.was));
+    }
 
 pub returns : goal.returns
-returns c = counting_ends c.args.content.now c.loop-at.at c.loop-at.count c.loop-at.invariant c.loop-at-test.false
+returns c =
+    let t = c.args.content.now in
+    let s = c.loop-word in
+    let end = YieldsList-end (YieldsList-from_slice_split _ (λ (b : ℕ). eqb b 32) t (cc) (cc) (cc) (λ x b q k. search (rules, tests))) s.yielded _ s.yielded_by _ _ c.in-None.is c.next.ensures.steps in
+    rw s.invariant.counted (counting_ends t (length s.yielded) s.invariant.words (search rules) end.1)

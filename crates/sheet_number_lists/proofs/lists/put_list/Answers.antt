@@ -1,40 +1,32 @@
--- `lists::put_list` meets its contract: the invariant is that the numbers of the words that are left end the list. Assumes nothing.
-use native.Mathlib.Omega.{arith}
-use Rattle.sheet_number_lists.proofs.Cuts.{end_within}
-use Rattle.sheet_number_lists.proofs.Turns.{listing_starts, listing_of_none, listing_goes_on, listing_ends}
+-- `lists::put_list` meets its contract. Assumes nothing.
+use Prim.Native.Nat.{ℕ}
+use lib.Dec.{eqb}
+use Rattle.std.proofs.Common.{rules, tests, length}
+use Rattle.std.proofs.lemmas.List.{length_push}
+use Rattle.std.proofs.lemmas.Iterator.Consumers.{YieldsList-turn, YieldsList-end}
+use Rattle.std.proofs.lemmas.Iterator.Splits.{YieldsList-from_slice_split}
+use Rattle.sheet_number_lists.proofs.Turns.{listing_of_none, listing_starts, listing_goes_on, listing_ends}
 use Rattle.sheet_number_lists.proofs.lists.put_list.Goals as goal
 
-pub returns-then-content-eq0 : goal.returns-then-content-eq0
-returns-then-content-eq0 c = let a = c.args in
-    rw c.least-next.ensures (listing_of_none a.content.now a.tiles.now a.at c.if-content-eq0.true)
+pub returns-then-is_empty : goal.returns-then-is_empty
+returns-then-is_empty c = let a = c.args in listing_of_none a.content.now a.tiles.now a.at (search rules) c.min-next.result (search rules)
 
-pub loop-from-init : goal.loop-from-init
-loop-from-init c = let a = c.args in
-    rw c.least-next.ensures (listing_starts a.content.now a.tiles.now a.at c.if-content-eq0.false)
+pub loop-word-init : goal.loop-word-init
+loop-word-init c = let a = c.args in listing_starts a.content.now a.tiles.now a.at (search rules) c.min-next.result (search rules)
 
-pub number_in-number-requires : goal.number_in-number-requires
-number_in-number-requires c = let e = c.word_end-to.ensures in
-    let within = end_within c.args.content.now c.loop-from.from c.loop-from-test.true in
-    (omega arith, omega arith)
-
-pub overflow_add-from : goal.overflow_add-from
-overflow_add-from c = let e = c.word_end-to.ensures in
-    let within = end_within c.args.content.now c.loop-from.from c.loop-from-test.true in
-    omega (arith, c.well_formed.0.1)
-
-pub loop-from-smaller : goal.loop-from-smaller
-loop-from-smaller c = let e = c.word_end-to.ensures in
-    let here = c.loop-from-test.true in
-    omega arith
-
-pub loop-from-preserved : goal.loop-from-preserved
-loop-from-preserved c = let a = c.args in
-    listing_goes_on a.content.now a.tiles.now a.at c.loop-from.from c.loop-from.tiles c.loop-from.next c.loop-from.invariant c.word_end-to.result c.loop-from-test.true
-    c.word_end-to.ensures c.number_in-number.result c.number_in-number.ensures c.put_tile-next.ensures
-
-pub shape_of-tiles : goal.shape_of-tiles
-shape_of-tiles c = c.loop-from.invariant.long
+pub loop-word-preserved : goal.loop-word-preserved
+loop-word-preserved c =
+    let a = c.args in
+    let t = a.content.now in
+    let s = c.loop-word in
+    let w = c.in-Some.word in
+    let turn = YieldsList-turn (YieldsList-from_slice_split _ (λ (b : ℕ). eqb b 32) t (cc) (cc) (cc) (λ x b q k. search (rules, tests))) s.yielded _ s.yielded_by _ _ w c.in-Some.is c.next.ensures.steps in
+    rw (length_push s.yielded w) (listing_goes_on t a.tiles.now a.at (length s.yielded) s.tiles s.next s.invariant w.now turn.0 turn.1 c.unwrap_or.result (cc) c.put_tile-next.ensures)
 
 pub returns : goal.returns
-returns c = let a = c.args in
-    listing_ends a.content.now a.tiles.now a.at c.loop-from.from c.loop-from.tiles c.loop-from.next c.loop-from.invariant c.loop-from-test.false
+returns c =
+    let a = c.args in
+    let t = a.content.now in
+    let s = c.loop-word in
+    let end = YieldsList-end (YieldsList-from_slice_split _ (λ (b : ℕ). eqb b 32) t (cc) (cc) (cc) (λ x b q k. search (rules, tests))) s.yielded _ s.yielded_by _ _ c.in-None.is c.next.ensures.steps in
+    listing_ends t a.tiles.now a.at (length s.yielded) s.tiles s.next s.invariant end.1
