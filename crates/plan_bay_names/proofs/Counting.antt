@@ -8,6 +8,9 @@ use native.Mathlib.Omega.{arith}
 use lib.Dec.{ltb}
 use lib.ListN.{length, get_or, drop, drop_of_length-le}
 use lib.Seq.{drop-cons}
+use Rattle.std.proofs.Common.{nat_cmp}
+use Rattle.std.proofs.lemmas.Bool.Decides.{nat_tests}
+use Rattle.std.specs.Ordering.{ord_max}
 use Rattle.name_strands.specs.Names.{StrandNames}
 use Rattle.plan_bay_names.specs.Bays.{bay_text, begun, character_count, widest_bay}
 
@@ -47,6 +50,10 @@ module _ (text : List ℕ) where
 
     pub counted_ends : length text ≤ i → count ≡ character_count text
     counted_ends h = let r = s.rest in omega (arith, no_byte h)
+
+-- the larger of two numbers
+pub max_is : (a b : ℕ) → ord_max nat_cmp a b ≡ max a b
+max_is a b = grind (arith, nat_tests)
 
 module _ (n : StrandNames) (layout : List ℕ) (widest i : ℕ) (s : max widest (widest_bay n (drop i layout)) ≡ widest_bay n layout) where
   next_bay : i < length layout → widest_bay n (drop i layout) ≡ max (character_count (bay_text n (get_or layout i 0))) (widest_bay n (drop (i + 1) layout))

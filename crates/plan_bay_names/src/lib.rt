@@ -1,32 +1,25 @@
 // The names that are shown for the bays of a layout, and how wide they are.
 #![tactic(auto)]
 
-ghost use Rattle.std.specs.Prelude.{◌≡◌, max, get_or};
-ghost use Rattle.name_strands.specs.Names.{strand_names};
+ghost use Rattle.std.specs.Prelude.{◌≡◌, get_or};
+ghost use Rattle.name_strands.specs.Names.{strand_names_of};
 ghost use Rattle.plan_bay_names.specs.Bays.{name_of, bay_text, begun, character_count, front_bytes, widest_bay};
 
+use name_strands::StrandNames;
+
 // The name that is shown for a tile, there being as many strands as presence bytes.
-pub fn name_of<'a>(
-    text: &'a [u8],
-    offsets: &[usize],
-    present: &[u8],
-    numerals: &'a [u8],
-    tile: u32,
-) -> &'a [u8]
-    ensures { let n = strand_names text.now offsets.now present.now numerals.now in
+pub fn name_of<'a>(names: &StrandNames<'a>, tile: u32) -> &'a [u8]
+    ensures { let n = strand_names_of names.now in
         result.now ≡ name_of n tile }
 {
-    name_tiles::tile_name(present.len(), text, offsets, present, numerals, tile)
+    name_tiles::tile_name(names.names.present.len(), names, tile)
 }
 
 // The tile of a bay, 0 past the layout's end.
 pub fn tile_at(layout: &[u32], bay: usize) -> u32
     ensures { result ≡ get_or layout.now bay 0 }
 {
-    if bay < layout.len() {
-        return layout[bay];
-    }
-    0
+    layout.get(bay).copied().unwrap_or(0)
 }
 
 // How many characters a text has.
@@ -34,10 +27,8 @@ pub fn characters(text: &[u8]) -> usize
     ensures { result ≡ character_count text.now }
 {
     let mut count = 0;
-    let mut i = 0;
-    while i < text.len() {
-        count += begins(text[i]);
-        i += 1;
+    for &byte in text {
+        count += begins(byte);
     }
     count
 }
@@ -47,16 +38,14 @@ pub fn front_bytes(text: &[u8], count: usize) -> usize
     ensures { result ≡ front_bytes count text.now }
 {
     let mut left = count;
-    let mut i = 0;
-    while i < text.len() {
-        let begun = begins(text[i]);
+    for (i, &byte) in text.iter().enumerate() {
+        let begun = begins(byte);
         if left < begun {
             return i;
         }
         left -= begun;
-        i += 1;
     }
-    i
+    text.len()
 }
 
 // 1 for a byte that begins a character.
@@ -73,47 +62,24 @@ fn begins(byte: u8) -> usize
 }
 
 // How many characters are shown for a bay.
-fn bay_width<'a>(
-    text: &'a [u8],
-    offsets: &[usize],
-    present: &[u8],
-    numerals: &'a [u8],
-    tile: u32,
-) -> usize
-    ensures { let n = strand_names text.now offsets.now present.now numerals.now in
+fn bay_width(names: &StrandNames<'_>, tile: u32) -> usize
+    ensures { let n = strand_names_of names.now in
         result ≡ character_count (bay_text n tile) }
 {
     if tile == 0 {
         return 1;
     }
-    characters(name_of(text, offsets, present, numerals, tile))
+    characters(name_of(names, tile))
 }
 
 // The most characters that a bay of a layout shows.
-pub fn widest_bay<'a>(
-    layout: &[u32],
-    text: &'a [u8],
-    offsets: &[usize],
-    present: &[u8],
-    numerals: &'a [u8],
-) -> usize
-    ensures { let n = strand_names text.now offsets.now present.now numerals.now in
+pub fn widest_bay(layout: &[u32], names: &StrandNames<'_>) -> usize
+    ensures { let n = strand_names_of names.now in
         result ≡ widest_bay n layout.now }
 {
     let mut widest = 0;
-    let mut i = 0;
-    while i < layout.len() {
-        widest = larger(
-            widest,
-            bay_width(text, offsets, present, numerals, layout[i]),
-        );
-        i += 1;
+    for &tile in layout {
+        widest = widest.max(bay_width(names, tile));
     }
     widest
-}
-
-fn larger(a: usize, b: usize) -> usize
-    ensures { result ≡ max a b }
-{
-    if a < b { b } else { a }
 }

@@ -3,7 +3,7 @@ use mathlib.Core.List.{[], ◌∷◌, ◌++◌, flat_map}
 use mathlib.Core.Path.{◌≡◌, refl}
 use mathlib.Core.Bool.{true}
 use lib.Ieee.{binary64, round}
-use Rattle.text_entries.specs.Entries.{offsets_from, are_flags, same_bytes}
+use Rattle.text_entries.specs.Entries.{offsets_from, are_flags}
 use Rattle.name_strands.specs.Numerals.{numerals_from, numerals_text}
 use Rattle.name_strands.specs.Names.{StrandNames, strand_names, names_sized, null_first, names_read}
 use Rattle.text_put.specs.Words.{bytes}
@@ -43,5 +43,5 @@ a_seed_and_an_empty_bay : svg_text 1 2 two (1 ∷ 0 ∷ []) (2 ∷ 3 ∷ []) (ro
     ++ bytes "<rect class=\"restricted\" x=\"86\" width=\"20\" height=\"20\"/><text class=\"key\" x=\"116\" y=\"15\">restricted</text>\n"
     ++ bytes "</g>\n"
     ++ bytes "</svg>\n"
-unfolding two flat_map offsets_from are_flags same_bytes numerals_from names_sized null_first names_read round decimal number_text filled_byte hundredths is_small is_negative energy_text name_of begun character_count escaped_byte letter_size label filling border tile_label row_drawing rows_drawing svg_text
+unfolding two flat_map offsets_from are_flags numerals_from names_sized null_first names_read round decimal number_text filled_byte hundredths is_small is_negative energy_text name_of begun character_count escaped_byte letter_size label filling border tile_label row_drawing rows_drawing svg_text
 a_seed_and_an_empty_bay = refl

@@ -8,30 +8,28 @@ mod frame;
 ghost use Rattle.std.specs.Prelude.{◌≡◌, ◌*◌, ◌≤◌, length, get_or, drop};
 ghost use Rattle.units.specs.Limits.{most_side};
 ghost use Rattle.text_put.specs.Puts.{Put};
-ghost use Rattle.name_strands.specs.Names.{strand_names};
+ghost use Rattle.name_strands.specs.Names.{strand_names_of};
 ghost use Rattle.plan_layout_svg.specs.Drawing.{row_drawing, rows_drawing, pixels_across, is_drawn, svg_text};
 
 use crate::frame::{put_foot, put_head};
+use name_strands::StrandNames;
 use plan_bay_drawing::put_bay;
 use plan_bay_names::tile_at;
 use text_put::put_text;
 use units::MOST_SIDE;
 
 // The drawing of a layout, with a mark for each bay: 0 free, 1 with a list, 2 seeded, 3 kept empty by a list of 0.
-pub fn put_svg<'a>(
+pub fn put_svg(
     rows: usize,
     cols: usize,
     layout: &[u32],
-    text: &'a [u8],
-    offsets: &[usize],
-    present: &[u8],
-    numerals: &'a [u8],
+    names: &StrandNames<'_>,
     marks: &[u8],
     energy: f64,
     out: &mut [u8],
     at: usize,
 ) -> usize
-    ensures { let n = strand_names text.now offsets.now present.now numerals.now in
+    ensures { let n = strand_names_of names.now in
         Put out.old at (svg_text rows cols n layout.now marks.now energy) result out.new }
 {
     if !has_room(rows, cols) {
@@ -39,7 +37,7 @@ pub fn put_svg<'a>(
     }
     let first = put_head(across(cols), 80 * (rows as u64) + 124, energy, out, at);
     let end = put_rows(
-        rows, cols, layout, text, offsets, present, numerals, marks, out, first,
+        rows, cols, layout, names, marks, out, first,
     );
     put_foot(80 * (rows as u64) + 78, out, end)
 }
@@ -56,28 +54,22 @@ fn across(cols: usize) -> u64
     requires { cols ≤ most_side }
     ensures { result ≡ pixels_across cols }
 {
-    if cols < 3 {
-        return 280;
-    }
-    80 * (cols as u64) + 40
+    80 * (cols.max(3) as u64) + 40
 }
 
 // The rows of a layout.
-fn put_rows<'a>(
+fn put_rows(
     rows: usize,
     cols: usize,
     layout: &[u32],
-    text: &'a [u8],
-    offsets: &[usize],
-    present: &[u8],
-    numerals: &'a [u8],
+    names: &StrandNames<'_>,
     marks: &[u8],
     out: &mut [u8],
     at: usize,
 ) -> usize
     requires rows_le_most_side { (rows ≤ most_side) × (cols ≤ most_side) }
     requires at_in_bounds { at ≤ length out.old }
-    ensures { let n = strand_names text.now offsets.now present.now numerals.now in
+    ensures { let n = strand_names_of names.now in
         Put out.old at (rows_drawing n cols 0 layout.now marks.now rows) result out.new }
 {
     let mut next = at;
@@ -85,7 +77,7 @@ fn put_rows<'a>(
     let mut row = 0;
     while row < rows {
         next = put_row(
-            row, cols, layout, text, offsets, present, numerals, marks, bay, out, next,
+            row, cols, layout, names, marks, bay, out, next,
         );
         bay += cols;
         row += 1;
@@ -94,14 +86,11 @@ fn put_rows<'a>(
 }
 
 // The bays of a row, of which this is the first.
-fn put_row<'a>(
+fn put_row(
     row: usize,
     cols: usize,
     layout: &[u32],
-    text: &'a [u8],
-    offsets: &[usize],
-    present: &[u8],
-    numerals: &'a [u8],
+    names: &StrandNames<'_>,
     marks: &[u8],
     first: usize,
     out: &mut [u8],
@@ -109,7 +98,7 @@ fn put_row<'a>(
 ) -> usize
     requires row_le_most_side { (row ≤ most_side) × (cols ≤ most_side) × (first ≤ most_side * most_side) }
     requires at_in_bounds { at ≤ length out.old }
-    ensures { let n = strand_names text.now offsets.now present.now numerals.now in
+    ensures { let n = strand_names_of names.now in
         Put out.old at (row_drawing n row 0 (drop first layout.now) (drop first marks.now) cols) result out.new }
 {
     let down = 64 + 80 * (row as u64);
@@ -118,10 +107,7 @@ fn put_row<'a>(
     while col < cols {
         let bay = first + col;
         next = put_bay(
-            text,
-            offsets,
-            present,
-            numerals,
+            names,
             24 + 80 * (col as u64),
             down,
             tile_at(layout, bay),
@@ -138,8 +124,5 @@ fn put_row<'a>(
 fn mark_at(marks: &[u8], bay: usize) -> u8
     ensures { result ≡ get_or marks.now bay 0 }
 {
-    if bay < marks.len() {
-        return marks[bay];
-    }
-    0
+    marks.get(bay).copied().unwrap_or(0)
 }

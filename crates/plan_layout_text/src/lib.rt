@@ -5,36 +5,33 @@
 
 ghost use Rattle.std.specs.Prelude.{◌≡◌, ◌+◌, ◌-◌, ◌≤◌, min, length, drop};
 ghost use Rattle.text_put.specs.Puts.{Put};
-ghost use Rattle.name_strands.specs.Names.{strand_names};
+ghost use Rattle.name_strands.specs.Names.{strand_names_of};
 ghost use Rattle.plan_bay_names.specs.Bays.{bay_text};
 ghost use Rattle.plan_layout_text.specs.Grid.{spaces, cell_text, row_text, layout_text};
 
+use name_strands::StrandNames;
 use plan_bay_names::{characters, name_of, tile_at, widest_bay};
-use text_fronts::least;
 use text_put::{chosen, put_text};
 
 // The grid of a layout.
-pub fn put_layout<'a>(
+pub fn put_layout(
     rows: usize,
     cols: usize,
     layout: &[u32],
-    text: &'a [u8],
-    offsets: &[usize],
-    present: &[u8],
-    numerals: &'a [u8],
+    names: &StrandNames<'_>,
     out: &mut [u8],
     at: usize,
 ) -> usize
-    ensures { let n = strand_names text.now offsets.now present.now numerals.now in
+    ensures { let n = strand_names_of names.now in
         Put out.old at (layout_text rows cols n layout.now) result out.new }
 {
-    let width = widest_bay(layout, text, offsets, present, numerals);
-    let mut next = least(at, out.len());
+    let width = widest_bay(layout, names);
+    let mut next = at.min(out.len());
     let mut bay = 0;
     let mut left = rows;
     while 0 < left {
         next = put_row(
-            layout, text, offsets, present, numerals, bay, cols, width, out, next,
+            layout, names, bay, cols, width, out, next,
         );
         bay = least_sum(bay, cols, layout.len());
         left -= 1;
@@ -43,12 +40,9 @@ pub fn put_layout<'a>(
 }
 
 // The line of so many bays from one on.
-fn put_row<'a>(
+fn put_row(
     layout: &[u32],
-    text: &'a [u8],
-    offsets: &[usize],
-    present: &[u8],
-    numerals: &'a [u8],
+    names: &StrandNames<'_>,
     first: usize,
     cols: usize,
     width: usize,
@@ -56,7 +50,7 @@ fn put_row<'a>(
     at: usize,
 ) -> usize
     requires { at ≤ length out.old }
-    ensures { let n = strand_names text.now offsets.now present.now numerals.now in
+    ensures { let n = strand_names_of names.now in
         Put out.old at (row_text n width (drop first layout.now) cols) result out.new }
 {
     let mut next = at;
@@ -66,7 +60,7 @@ fn put_row<'a>(
         left -= 1;
         let tile = tile_at(layout, bay);
         next = put_bay(
-            text, offsets, present, numerals, tile, width, left, out, next,
+            names, tile, width, left, out, next,
         );
         bay = least_sum(bay, 1, layout.len());
     }
@@ -74,21 +68,18 @@ fn put_row<'a>(
 }
 
 // What is shown for a bay, and what stands between it and the next one.
-fn put_bay<'a>(
-    text: &'a [u8],
-    offsets: &[usize],
-    present: &[u8],
-    numerals: &'a [u8],
+fn put_bay(
+    names: &StrandNames<'_>,
     tile: u32,
     width: usize,
     left: usize,
     out: &mut [u8],
     at: usize,
 ) -> usize
-    ensures { let n = strand_names text.now offsets.now present.now numerals.now in
+    ensures { let n = strand_names_of names.now in
         Put out.old at (cell_text width left (bay_text n tile)) result out.new }
 {
-    let name = name_of(text, offsets, present, numerals, tile);
+    let name = name_of(names, tile);
     put_cell(chosen(tile == 0, b".", name), width, left, out, at)
 }
 

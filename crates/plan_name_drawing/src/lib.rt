@@ -9,7 +9,6 @@ ghost use Rattle.plan_name_drawing.specs.Escaped.{escaped_byte, escaped};
 ghost use Rattle.plan_name_drawing.specs.Letters.{letter_size, line, two_lines, label};
 
 use plan_bay_names::{characters, front_bytes};
-use text_fronts::least;
 use text_put::{chosen, put_form, put_text};
 
 // A name, on one line or on two.
@@ -53,11 +52,9 @@ fn put_line(down: u64, size: u64, text: &[u8], out: &mut [u8], at: usize) -> usi
 fn put_escaped(out: &mut [u8], at: usize, text: &[u8]) -> usize
     ensures { Put out.old at (escaped text.now) result out.new }
 {
-    let mut next = least(at, out.len());
-    let mut i = 0;
-    while i < text.len() {
-        next = put_byte(out, next, text[i]);
-        i += 1;
+    let mut next = at.min(out.len());
+    for &byte in text {
+        next = put_byte(out, next, byte);
     }
     next
 }

@@ -1,4 +1,7 @@
 -- `plan_bay_names::front_bytes` meets its contract: the invariant is that the bytes passed and those to come are the bytes asked for. Assumes nothing.
+use mathlib.Core.Path.{◌≡◌, ◌∙◌}
+use native.Mathlib.Omega.{arith}
+use lib.ListN.{length}
 use Rattle.plan_bay_names.proofs.Fronts.{front_found, front_goes_on, front_ends}
 use Rattle.plan_bay_names.proofs.front_bytes.Goals as goal
 
@@ -12,4 +15,5 @@ loop-i-preserved c = let a = c.args in
 
 pub returns : goal.returns
 returns c = let a = c.args in
-    front_ends a.text.now a.count c.loop-i.left c.loop-i.i c.loop-i.invariant c.loop-i-test.false
+    let all : length a.text.now ≡ c.loop-i.i = omega arith in
+    all ∙ front_ends a.text.now a.count c.loop-i.left c.loop-i.i c.loop-i.invariant c.loop-i-test.false

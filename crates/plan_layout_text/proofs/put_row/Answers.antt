@@ -3,7 +3,7 @@ use mathlib.Core.List.{[], ◌∷◌}
 use mathlib.Core.Path.{◌∙◌}
 use native.Mathlib.Omega.{arith}
 use lib.ListN.{drop}
-use Rattle.name_strands.specs.Names.{strand_names}
+use Rattle.name_strands.specs.Names.{strand_names_of}
 use Rattle.text_put.proofs.Putting.{put_long, ending_starts, last_part}
 use Rattle.plan_layout_text.specs.Grid.{row_text}
 use Rattle.plan_layout_text.proofs.Lines.{row_goes_on, row_end}
@@ -11,14 +11,14 @@ use Rattle.plan_layout_text.proofs.put_row.Goals as goal
 
 pub loop-left-init : goal.loop-left-init
 loop-left-init c = let a = c.args in
-    ending_starts (row_text (strand_names a.text.now a.offsets.now a.present.now a.numerals.now) a.width (drop a.first a.layout.now) a.cols) c.requires
+    ending_starts (row_text (strand_names_of a.names.now) a.width (drop a.first a.layout.now) a.cols) c.requires
 
 pub loop-left-smaller : goal.loop-left-smaller
 loop-left-smaller c = omega (arith, c.loop-left-test.true)
 
 pub loop-left-preserved : goal.loop-left-preserved
 loop-left-preserved c = let a = c.args in
-    row_goes_on (strand_names a.text.now a.offsets.now a.present.now a.numerals.now) a.width a.layout.now c.loop-left.bay c.loop-left.left c.loop-left.invariant
+    row_goes_on (strand_names_of a.names.now) a.width a.layout.now c.loop-left.bay c.loop-left.left c.loop-left.invariant
     c.loop-left-test.true c.tile_at-tile.ensures c.put_bay-next.ensures c.least_sum-bay.ensures
 
 pub shape_of-out : goal.shape_of-out
@@ -27,5 +27,5 @@ shape_of-out c = put_long c.put_text.ensures ∙ c.loop-left.invariant.long
 pub returns : goal.returns
 returns c = let a = c.args in
     last_part c.loop-left.invariant (10 ∷ [])
-    (row_end (strand_names a.text.now a.offsets.now a.present.now a.numerals.now) a.width (drop c.loop-left.bay a.layout.now) c.loop-left.left c.loop-left-test.false)
+    (row_end (strand_names_of a.names.now) a.width (drop c.loop-left.bay a.layout.now) c.loop-left.left c.loop-left-test.false)
     c.put_text.ensures

@@ -1,13 +1,13 @@
 -- `plan_layout_text::put_row` meets its contract: the invariant is that what is left of the row ends it. Assumes nothing.
 use lib.ListN.{drop}
-use Rattle.name_strands.specs.Names.{strand_names}
+use Rattle.name_strands.specs.Names.{strand_names_of}
 use Rattle.text_put.proofs.Putting.{Ending}
 use Rattle.plan_layout_text.specs.Grid.{row_text}
 use Rattle.plan_layout_text.proofs.put_row.Given as goal
 
 abbrev pub invariant-loop-left : goal.invariant-loop-left
 invariant-loop-left l =
-    let n = strand_names l.text l.offsets l.present l.numerals in
+    let n = strand_names_of l.names in
     Ending l.initial.out l.at (row_text n l.width (drop l.first l.layout) l.cols) (row_text n l.width (drop l.bay l.layout) l.left) l.out l.next
 
 abbrev pub decreases-loop-left : goal.decreases-loop-left
