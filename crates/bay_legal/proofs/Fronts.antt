@@ -5,8 +5,8 @@ use mathlib.Core.Bool.{Bool}
 use mathlib.Core.List.{List, [], ◌∷◌, ◌++◌}
 use native.Mathlib.Numerals.{add-one}
 use native.Mathlib.Omega.{arith}
-use lib.ListN.{length, get_or, set, take, drop, length-append, length-take}
-use lib.Seq.{take-suc, take-suc-set, drop-set-lt, drop-drop}
+use lib.ListN.{length, set, take, drop, length-append, length-take}
+use lib.Seq.{take-suc-set, drop-set-lt, drop-drop}
 use Rattle.sets.specs.Set.{word}
 use Rattle.bay_legal.specs.Sets.{sets_to}
 
@@ -34,8 +34,3 @@ length_sets legal (suc n) = length-append (sets_to legal n) (word (legal n) 64 �
 pub no_set : (legal : ℕ → ℕ → Bool) → [] ≡ sets_to legal 0
 unfolding sets_to
 no_set legal = refl
-
--- one element copied more
-pub copied_more : (own table : List ℕ) (i : ℕ) → take i table ≡ take i own → i < length table → i < length own → take (i + 1) (set table i (get_or own i 0)) ≡ take (i + 1) own
-copied_more own table i e h k =
-    rw (add-one i) (take-suc-set table i (get_or own i 0) h ∙ ap (λ (front : List ℕ). front ++ (get_or own i 0 ∷ [])) e ∙ sym (take-suc own i 0 k))

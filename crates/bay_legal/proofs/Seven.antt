@@ -10,6 +10,7 @@ use lib.Dec.{eqb, ltb}
 use lib.ListN.{get_or, get_or-append}
 use lib.Seq.{get_or-append_seam}
 use borrow.Author.Tests.{eqb-true, eqb-false, ltb-true, ltb-false, lt-ltb}
+use Rattle.units.specs.declared.refusal.Refusal.TheVariants.{NoLegalStrand}
 use Rattle.units.specs.Refusals.{passes, refuses, refuse_if}
 use Rattle.sets.specs.Set.{has, word, next_of}
 use Rattle.sets.proofs.Bits.{has_beyond}
@@ -71,7 +72,7 @@ module _ (rows cols : ℕ) (sets : List ℕ) where
 
   -- a bay without a legal strand is refused, and the bay that the refusal names is the first one in scan order
   pub seven : (bay : ℕ) → bay < rows * cols → get_or sets bay 0 ≡ 0
-      → let k = first_empty rows cols sets 0 (rows * cols) in (empty_verdict rows cols sets ≡ refuses 7 (bay_at rows cols k ∷ [])) × FirstWithout 0 k
+      → let k = first_empty rows cols sets 0 (rows * cols) in (empty_verdict rows cols sets ≡ refuses (NoLegalStrand (bay_at rows cols k))) × FirstWithout 0 k
   seven bay h z =
       let n = rows * cols in
       let k = first_empty rows cols sets 0 n in
@@ -79,7 +80,7 @@ module _ (rows cols : ℕ) (sets : List ℕ) where
       let here : at < n = number_inside rows cols bay h in
       let none : scanned_set at ≡ 0 = ap (λ (b : ℕ). get_or sets b 0) (scanned rows cols bay h) ∙ z in
       let found : k < n = omega (arith, not_after 0 n at (omega arith) (omega (arith, here)) none, here) in
-      (ap (λ (t : Bool). refuse_if t 7 (bay_at rows cols k ∷ [])) (lt-ltb k n found), first_without 0 n (omega (arith, found)))
+      (ap (λ (t : Bool). refuse_if t (NoLegalStrand (bay_at rows cols k))) (lt-ltb k n found), first_without 0 n (omega (arith, found)))
 
 -- the set of a bay stands at the bay's place
 pub set_of_bay : (legal : ℕ → ℕ → Bool) (n bay : ℕ) → bay < n → get_or (sets_to legal n) bay 0 ≡ word (legal bay) 64
@@ -143,7 +144,7 @@ module _ (z : Sizes) (legal : ℕ → ℕ → Bool) (few : (bay strand : ℕ) �
       }
 
   -- the first in scan order without a strand is the bay that the search finds
-  first_found : (bay : ℕ) → FirstWithoutStrand z legal bay → seven_verdict z legal ≡ refuses 7 (bay ∷ [])
+  first_found : (bay : ℕ) → FirstWithoutStrand z legal bay → seven_verdict z legal ≡ refuses (NoLegalStrand bay)
   first_found bay f =
       let rows = z.rows in
       let cols = z.cols in
@@ -154,7 +155,7 @@ module _ (z : Sizes) (legal : ℕ → ℕ → Bool) (few : (bay strand : ℕ) �
       let most : found ≤ number_at rows cols bay = not_after rows cols sets 0 (bays z) (number_at rows cols bay) (omega arith) (omega (arith, number)) here in
       let inside : found < bays z = omega (arith, most, number) in
       let same : found ≡ number_at rows cols bay = by most inside refused.1 (dec_lt found (number_at rows cols bay)) in
-      refused.0 ∙ ap (λ (b : ℕ). refuses 7 (b ∷ [])) (ap (bay_at rows cols) same ∙ scanned rows cols bay f.inside)
+      refused.0 ∙ ap (λ (b : ℕ). refuses (NoLegalStrand b)) (ap (bay_at rows cols) same ∙ scanned rows cols bay f.inside)
     where
       by : found ≤ number_at z.rows z.cols bay → found < bays z → FirstWithout z.rows z.cols sets 0 found
           → Dec (found < number_at z.rows z.cols bay) → found ≡ number_at z.rows z.cols bay
@@ -165,29 +166,27 @@ module _ (z : Sizes) (legal : ℕ → ℕ → Bool) (few : (bay strand : ℕ) �
           absurd (not_both other on_grid (f.some_before other on_grid (omega (arith, h, numbered z.rows z.cols found inside))) here.is_empty)
 
   -- what the verdict tells of the search
-  refused_found : (bay : ℕ) → seven_verdict z legal ≡ refuses 7 (bay ∷ []) → (b : Bool) → ltb found (bays z) ≡ b → FirstWithoutStrand z legal bay
+  refused_found : (bay : ℕ) → seven_verdict z legal ≡ refuses (NoLegalStrand bay) → (b : Bool) → ltb found (bays z) ≡ b → FirstWithoutStrand z legal bay
   refused_found bay e true t =
-      let same : refuses 7 (bay_at z.rows z.cols found ∷ []) ≡ refuses 7 (bay ∷ []) =
-      sym (ap (λ (b : Bool). refuse_if b 7 (bay_at z.rows z.cols found ∷ [])) t) ∙ e in
+      let same : refuses (NoLegalStrand (bay_at z.rows z.cols found)) ≡ refuses (NoLegalStrand bay) =
+      sym (ap (λ (b : Bool). refuse_if b (NoLegalStrand (bay_at z.rows z.cols found))) t) ∙ e in
       subst (FirstWithoutStrand z legal) (cc) (found_first (ltb-true found (bays z) t))
   refused_found bay e false t =
-      let never : passes ≡ refuses 7 (bay ∷ []) = sym (ap (λ (b : Bool). refuse_if b 7 (bay_at z.rows z.cols found ∷ [])) t) ∙ e in
-      let clash : ◌≡◌ {A = ℕ} 0 1 = cc in
-      absurd (omega arith)
+      let never : passes ≡ refuses (NoLegalStrand bay) = sym (ap (λ (b : Bool). refuse_if b (NoLegalStrand (bay_at z.rows z.cols found))) t) ∙ e in
+      cc
 
   passed_some : seven_verdict z legal ≡ passes → (bay : ℕ) → bay < bays z → SomeStrand legal bay
   passed_some e bay h =
       some_legal bay h
-      (λ empty. let never : passes ≡ refuses 7 (bay_at z.rows z.cols found ∷ []) = sym e ∙ (seven z.rows z.cols sets bay h empty).0 in
-      let clash : ◌≡◌ {A = ℕ} 0 1 = cc in
-      omega arith)
+      (λ empty. let never : passes ≡ refuses (NoLegalStrand (bay_at z.rows z.cols found)) = sym e ∙ (seven z.rows z.cols sets bay h empty).0 in
+      cc)
 
   some_passes : ((bay : ℕ) → bay < bays z → SomeStrand legal bay) → (b : Bool) → ltb found (bays z) ≡ b → seven_verdict z legal ≡ passes
   some_passes all true t =
       let f = found_first (ltb-true found (bays z) t) in
       let some = all (bay_at z.rows z.cols found) f.inside in
       absurd (true≢false (sym some.1 ∙ f.none_legal some.0))
-  some_passes all false t = ap (λ (b : Bool). refuse_if b 7 (bay_at z.rows z.cols found ∷ [])) t
+  some_passes all false t = ap (λ (b : Bool). refuse_if b (NoLegalStrand (bay_at z.rows z.cols found))) t
 
   pub seven_exactly : SevenTheorem z legal
   seven_exactly =

@@ -1,5 +1,6 @@
 -- The sets of all bays, one word a bay, and what is refused of them: 5 and 7 after 1 to 4. Assumes nothing.
 use Rattle.std.specs.Prelude.{ℕ, zero, suc, ◌*◌, Bool, cond, List, [], ◌∷◌, ◌++◌, eqb, ltb, length, get_or}
+use Rattle.units.specs.declared.refusal.Refusal.TheVariants.{NoLegalStrand}
 use Rattle.units.specs.Refusals.{Verdict, refuse_if, ◌▷◌, if_passes}
 use Rattle.sets.specs.Set.{word}
 use Rattle.bay_system.specs.System.{System}
@@ -25,7 +26,7 @@ first_empty rows cols sets i (suc k) = cond (eqb (get_or sets (bay_at rows cols 
 -- 7, with the first bay in scan order: a bay has no legal strand
 abbrev pub empty_verdict : (rows cols : ℕ) → (sets : List ℕ) → Verdict
 empty_verdict rows cols sets =
-    let found = first_empty rows cols sets 0 (rows * cols) in refuse_if (ltb found (rows * cols)) 7 (bay_at rows cols found ∷ [])
+    let found = first_empty rows cols sets 0 (rows * cols) in refuse_if (ltb found (rows * cols)) (NoLegalStrand (bay_at rows cols found))
 
 -- 1 to 5, then 7
 abbrev pub allowed_verdict : System → (lent : ℕ) → Constraints → Verdict

@@ -1,5 +1,6 @@
 -- Refusal 7 in the rules' words, over whatever says which strand is legal at which bay, as long as no strand from 64 on is. Assumes nothing.
-use Rattle.std.specs.Prelude.{ℕ, ◌<◌, ◌≡◌, Bool, true, false, [], ◌∷◌, ◌↔◌}
+use Rattle.std.specs.Prelude.{ℕ, ◌<◌, ◌≡◌, Bool, true, false, ◌↔◌}
+use Rattle.units.specs.declared.refusal.Refusal.TheVariants.{NoLegalStrand}
 use Rattle.units.specs.Refusals.{Verdict, passes, refuses}
 use Rattle.bay_system.specs.declared.sizes.Sizes.{Sizes}
 use Rattle.bay_scan_order.specs.Scan.{number_at}
@@ -21,5 +22,5 @@ seven_verdict z legal = empty_verdict z.rows z.cols (sets_to legal (bays z))
 
 -- 7 comes with a bay exactly where that is the first one in scan order without a legal strand; none comes exactly where every bay has one
 pub record SevenTheorem (z : Sizes) (legal : ℕ → ℕ → Bool) : Type 0 where
-  pub refused : (bay : ℕ) → (seven_verdict z legal ≡ refuses 7 (bay ∷ [])) ↔ FirstWithoutStrand z legal bay
+  pub refused : (bay : ℕ) → (seven_verdict z legal ≡ refuses (NoLegalStrand bay)) ↔ FirstWithoutStrand z legal bay
   pub passed : (seven_verdict z legal ≡ passes) ↔ ((bay : ℕ) → bay < bays z → SomeStrand legal bay)
