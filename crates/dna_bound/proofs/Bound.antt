@@ -11,7 +11,6 @@ use denote.Triple.Clauses.{AtExit}
 use borrow.Fn.Kinds.{Dens, res_t, ended_of}
 use Rattle.floats.proofs.Distances.{close_coarser}
 use Rattle.units.specs.Limits.{most_letters}
-use Rattle.units.proofs.Answers.{base_energy_answered}
 use Rattle.units.specs.Decimals.{minus}
 use Rattle.dna_letters.specs.declared.DnaNucleotideBase.{DnaNucleotideBase}
 use Rattle.dna_letters.specs.Bases.{base_at}
@@ -21,7 +20,7 @@ use Rattle.dna_steps.proofs.StepTables.{step_at_most}
 use Rattle.dna_steps.proofs.Published.{as_published}
 use Rattle.dna_single.specs.Single.{steps_sum, single_energy, single_verdict}
 use Rattle.dna_calls.specs.Single.{string_dna_dg_ds}
-use Rattle.dna_calls.proofs.Refused.{single_short}
+use Rattle.dna_calls.proofs.Refused.{single_short, answered}
 use Rattle.dna_calls.proofs.string_dna_dg_ds.Kinds as kinds
 use Rattle.dna_calls.proofs.string_dna_dg_ds.Reads as reads
 use Rattle.dna_published.specs.PublishedSums.{published_dg, whole_to}
@@ -45,7 +44,7 @@ steps_run dna =
 by_definition : (dna : List ℕ) → DeltaGBound dna (string_dna_dg_ds dna)
 unfolding start
 by_definition dna energy h =
-    let a = base_energy_answered (single_verdict dna) (single_energy dna) energy h in
+    let a = answered (single_verdict dna) (single_energy dna) energy h in
     let few : length dna ≤ most_letters = single_short dna a.0 in
     rw a.1
     (close_coarser (lit≤ tt) (lit≤ tt) (all_close (steps_run dna) (length dna - 1) published_start_dg (omega arith) (lit≤ tt)))
@@ -53,4 +52,4 @@ by_definition dna energy h =
 -- Of any result that meets the contract of `string_dna_dg_ds`, the bound holds.
 pub delta_g_bound : (κs : Lfts 1) (lent : Dens κs kinds.ps) (answer : (res_t kinds.r κs).Denot) (exit : AtExit (ended_of 1 kinds.ps kinds.r) κs)
     → reads.Post κs lent answer exit → DeltaGBound lent.0.now answer
-delta_g_bound κs lent answer exit post = rw post.1 (by_definition lent.0.now)
+delta_g_bound κs lent answer exit post = rw post (by_definition lent.0.now)

@@ -5,9 +5,9 @@ use mathlib.Core.List.{List}
 use lib.Dec.{ltb}
 use lib.ListN.{length}
 use borrow.Author.Tests.{ltb-false}
-use Rattle.std.specs.Prelude.{Option, None, Some}
+use Rattle.std.specs.Prelude.{Option, None, Some, Ok, Err}
 use Rattle.units.specs.Limits.{most_letters}
-use Rattle.units.specs.Refusals.{passes, ◌▷◌}
+use Rattle.units.specs.Refusals.{Verdict, passes, ◌▷◌, answer}
 use Rattle.units.proofs.Verdicts.{no_fault, first_passes, rest_passes}
 use Rattle.dna_letters.specs.Letters.{length_verdict, letter_verdict, letters_verdict, first_bad}
 use Rattle.dna_letters.proofs.Limits.{not_longer}
@@ -38,3 +38,8 @@ single_long dna e =
     ltb-false (length dna) 2
     (no_fault (ltb (length dna) 2) _
     (rest_passes (letters_verdict 0 dna) (short_verdict dna) (rest_passes (length_verdict dna) (letters_verdict 0 dna ▷ short_verdict dna) e)))
+
+-- an answer with a value comes from tests that pass, and its value is the one that it was made of
+pub answered : {A : Type 0} (v : Verdict) (value given : A) → answer v value ≡ Ok given → (v ≡ passes) × (given ≡ value)
+answered (Ok tt) value given e = (refl, cc)
+answered (Err r) value given e = cc

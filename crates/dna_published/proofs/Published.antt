@@ -10,9 +10,8 @@ use lib.ListN.{length}
 use contract.Lifetimes.{Lfts}
 use denote.Triple.Clauses.{AtExit}
 use borrow.Fn.Kinds.{Dens, res_t, ended_of}
-use Rattle.units.proofs.Answers.{base_energy_answered, hundredths_answered}
+use Rattle.std.specs.Prelude.{Ok}
 use Rattle.units.specs.declared.BaseEnergy.{BaseEnergy}
-use Rattle.units.specs.declared.BaseEnergyAnswer.TheVariants.{Found}
 use Rattle.units.specs.Decimals.{minus}
 use Rattle.dna_letters.specs.declared.DnaNucleotideBase.{DnaNucleotideBase}
 use Rattle.dna_letters.specs.Bases.{base_at}
@@ -23,6 +22,7 @@ use Rattle.dna_hundredths.specs.Hundredths.{steps_hundredths, single_hundredths,
 use Rattle.dna_single.specs.Single.{steps_sum, single_energy, single_verdict}
 use Rattle.dna_calls.specs.Single.{string_dna_dg_ds}
 use Rattle.dna_calls.specs.Hundredths.{string_dna_hundredths}
+use Rattle.dna_calls.proofs.Refused.{answered}
 use Rattle.dna_calls.proofs.string_dna_dg_ds.Kinds as dg-ds-kinds
 use Rattle.dna_calls.proofs.string_dna_dg_ds.Reads as dg-ds
 use Rattle.dna_calls.proofs.string_dna_hundredths.Kinds as hundredths-kinds
@@ -82,19 +82,19 @@ by_definition : (dna : List ℕ) → PublishedSums dna (string_dna_dg_ds dna) (s
 unfolding start
 by_definition dna =
     record {
-      energy = λ e given. ap (λ x. x.dg) (base_energy_answered (single_verdict dna) (single_energy dna) e given).1 ∙ ap (λ x. add binary64 x start.dg) (energy_sum dna (length dna - 1));
+      energy = λ e given. ap (λ x. x.dg) (answered (single_verdict dna) (single_energy dna) e given).1 ∙ ap (λ x. add binary64 x start.dg) (energy_sum dna (length dna - 1));
       entropy_as_ported = as_ported;
       entropy_off_record = λ e given none. as_ported e given ∙ ap (λ x. add binary64 x start.ds) (entropies_off_record dna (length dna - 1) none);
       entropy_steps = entropy_steps dna (length dna - 1);
       entropy_start = refl;
       in_hundredths =
           λ z given.
-          (hundredths_answered (single_verdict dna) (single_hundredths dna) z given).1
+          (answered (single_verdict dna) (single_hundredths dna) z given).1
           ∙ ap (λ less. pos (start_hundredths + end_term (base_at dna 0) (base_at dna (length dna - 1))) -ℤ pos less) (hundredths_sum dna (length dna - 1));
     }
   where
-    as_ported : (e : BaseEnergy) → string_dna_dg_ds dna ≡ Found e → e.ds ≡ add binary64 (rounded (λ a b. entropy (pos (ported_ds a b))) dna) start.ds
-    as_ported e given = ap (λ x. x.ds) (base_energy_answered (single_verdict dna) (single_energy dna) e given).1 ∙ ap (λ x. add binary64 x start.ds) (entropy_sum dna (length dna - 1))
+    as_ported : (e : BaseEnergy) → string_dna_dg_ds dna ≡ Ok e → e.ds ≡ add binary64 (rounded (λ a b. entropy (pos (ported_ds a b))) dna) start.ds
+    as_ported e given = ap (λ x. x.ds) (answered (single_verdict dna) (single_energy dna) e given).1 ∙ ap (λ x. add binary64 x start.ds) (entropy_sum dna (length dna - 1))
 
 -- Of any two results that meet the contracts of `string_dna_dg_ds` and `string_dna_hundredths` on the same letters, the statement holds.
 pub published_sums : (κs κt : Lfts 1) (x : Dens κs dg-ds-kinds.ps) (y : Dens κt hundredths-kinds.ps)
@@ -102,4 +102,4 @@ pub published_sums : (κs κt : Lfts 1) (x : Dens κs dg-ds-kinds.ps) (y : Dens 
     (at_r : AtExit (ended_of 1 dg-ds-kinds.ps dg-ds-kinds.r) κs) (at_s : AtExit (ended_of 1 hundredths-kinds.ps hundredths-kinds.r) κt)
     → dg-ds.Post κs x r at_r → hundredths.Post κt y s at_s → y.0.now ≡ x.0.now
     → PublishedSums x.0.now r s
-published_sums κs κt x y r s at_r at_s p q same = rw (p.1, q.1, same) (by_definition x.0.now)
+published_sums κs κt x y r s at_r at_s p q same = rw (p, q, same) (by_definition x.0.now)

@@ -1,12 +1,9 @@
 -- What the calls answer for one sequence, beside the sums of the values that SantaLucia and Hicks 2004 print. Assumes nothing.
-use Rattle.std.specs.Prelude.{ℕ, zero, suc, ◌+◌, ◌*◌, ◌-◌, ◌≡◌, cond, List, Float, ℤ, pos, negsuc, neg_ℤ, ◌-ℤ◌, length}
+use Rattle.std.specs.Prelude.{ℕ, zero, suc, ◌+◌, ◌*◌, ◌-◌, ◌≡◌, cond, List, Result, Ok, Float, ℤ, pos, negsuc, neg_ℤ, ◌-ℤ◌, length}
 use Rattle.std.specs.Float.{binary64}
 use Rattle.std.specs.Float.Ieee.{add}
 use Rattle.units.specs.declared.BaseEnergy.{BaseEnergy}
-use Rattle.units.specs.declared.BaseEnergyAnswer.{BaseEnergyAnswer}
-use Rattle.units.specs.declared.BaseEnergyAnswer.TheVariants.{Found}
-use Rattle.units.specs.declared.HundredthsAnswer.{HundredthsAnswer}
-use Rattle.units.specs.declared.HundredthsAnswer.TheVariants.{Hundredths}
+use Rattle.units.specs.declared.refusal.Refusal.{Refusal}
 use Rattle.units.specs.Decimals.{plus, minus}
 use Rattle.dna_letters.specs.declared.DnaNucleotideBase.{DnaNucleotideBase}
 use Rattle.dna_letters.specs.Bases.{base_at}
@@ -62,18 +59,18 @@ entropy (pos n) = minus n 10000
 entropy (negsuc n) = plus (suc n) 10000
 
 -- Of a sequence, what `string_dna_dg_ds` answered for it and what `string_dna_hundredths` answered for it:
-pub record PublishedSums (dna : List ℕ) (energies : BaseEnergyAnswer) (hundredths : HundredthsAnswer) : Type 0 where
+pub record PublishedSums (dna : List ℕ) (energies : Result BaseEnergy Refusal) (hundredths : Result ℤ Refusal) : Type 0 where
   -- an answered ΔG is, to the bit, the sum of the published values and then the published start
-  pub energy : (e : BaseEnergy) → energies ≡ Found e → e.dg ≡ add binary64 (rounded (λ a b. minus (published_dg a b) 100) dna) (plus published_start_dg 100)
+  pub energy : (e : BaseEnergy) → energies ≡ Ok e → e.dg ≡ add binary64 (rounded (λ a b. minus (published_dg a b) 100) dna) (plus published_start_dg 100)
   -- an answered ΔS is, to the bit, the sum of the ported values and then the ported start
-  pub entropy_as_ported : (e : BaseEnergy) → energies ≡ Found e → e.ds ≡ add binary64 (rounded (λ a b. entropy (pos (ported_ds a b))) dna) (entropy start_ds_ported)
+  pub entropy_as_ported : (e : BaseEnergy) → energies ≡ Ok e → e.ds ≡ add binary64 (rounded (λ a b. entropy (pos (ported_ds a b))) dna) (entropy start_ds_ported)
   -- where no step on record occurs it is that of the published values, and then the ported start
-  pub entropy_off_record : (e : BaseEnergy) → energies ≡ Found e → whole on_record dna ≡ 0
+  pub entropy_off_record : (e : BaseEnergy) → energies ≡ Ok e → whole on_record dna ≡ 0
       → e.ds ≡ add binary64 (rounded (λ a b. entropy (pos (published_ds a b))) dna) (entropy start_ds_ported)
   -- of −ΔS in ten-thousandths, the ported sum of the steps is the published one and 9 for each step on record
   pub entropy_steps : whole ported_ds dna ≡ whole published_ds dna + 9 * whole on_record dna
   -- and the start is −57 ported, +57 published
   pub entropy_start : start_ds_ported ≡ neg_ℤ start_ds_published
   -- an answer in hundredths is the published start and the end term, less the sum of the published values
-  pub in_hundredths : (z : ℤ) → hundredths ≡ Hundredths z
+  pub in_hundredths : (z : ℤ) → hundredths ≡ Ok z
       → z ≡ pos (published_start_dg + end_term (base_at dna 0) (base_at dna (length dna - 1))) -ℤ pos (whole published_dg dna)
