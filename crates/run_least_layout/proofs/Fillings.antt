@@ -72,7 +72,7 @@ module _ (s : System) where
   no_line k e a b u t = without a ∙ sym (without b)
     where
       alone : ℕ → ℕ → Float
-      alone u t = with_bond (not (eqb (k % m) 0)) (edge_energy s.sizes s.strand_glues s.delta_g s.entropy (not (by_rows s.sizes.rows s.sizes.cols)) u t) (bay_energy s.sizes s.strand_glues s.scaffold s.delta_g s.entropy s.logs (bay_at s.sizes.rows s.sizes.cols k) t)
+      alone u t = with_bond (not (eqb (k % m) 0)) (edge_energy s (not (by_rows s.sizes.rows s.sizes.cols)) u t) (bay_energy s (bay_at s.sizes.rows s.sizes.cols k) t)
 
       without : (a : ℕ) → bay_number s k a u t ≡ alone u t
       without a = rw e
@@ -81,7 +81,7 @@ module _ (s : System) where
   no_bay k e a u v t = without u ∙ sym (without v)
     where
       alone : ℕ → ℕ → Float
-      alone a t = with_bond (leb m k) (edge_energy s.sizes s.strand_glues s.delta_g s.entropy (by_rows s.sizes.rows s.sizes.cols) a t) (bay_energy s.sizes s.strand_glues s.scaffold s.delta_g s.entropy s.logs (bay_at s.sizes.rows s.sizes.cols k) t)
+      alone a t = with_bond (leb m k) (edge_energy s (by_rows s.sizes.rows s.sizes.cols) a t) (bay_energy s (bay_at s.sizes.rows s.sizes.cols k) t)
 
       without : (u : ℕ) → bay_number s k a u t ≡ alone a t
       without u = rw e

@@ -66,27 +66,27 @@ module _ (s : System) (may : ℕ → ℕ → Bool) where
 
   -- ---- what a strand adds
   pair_is : (north_south : Bool) (a t : ℕ) → s.sizes.strands ≤ most_strands → a < s.sizes.strands → t < s.sizes.strands
-      → bond_at (bond_table s.sizes s.strand_glues s.delta_g s.entropy north_south) a t ≡ edge_energy s.sizes s.strand_glues s.delta_g s.entropy north_south a t
+      → bond_at (bond_table s north_south) a t ≡ edge_energy s north_south a t
   pair_is north_south a t few h k =
-      let f : ℕ → Float = λ i. pair_energy s.sizes s.strand_glues s.delta_g s.entropy north_south (i % most_strands) (i / most_strands) in
+      let f : ℕ → Float = λ i. pair_energy s north_south (i % most_strands) (i / most_strands) in
       let small : a < most_strands = lt_of_lt_of_le h few in
       let inside : t * most_strands + a < most_strands * most_strands = omega (arith, small, lt_of_lt_of_le k few) in
       tab_at f (most_strands * most_strands) (t * most_strands + a) nan inside
-      ∙ ap₂ (pair_energy s.sizes s.strand_glues s.delta_g s.entropy north_south) (digits_mod t small) (digits_div t small)
-      ∙ ap₂ (λ (p q : Bool). cond (p && q) (edge_energy s.sizes s.strand_glues s.delta_g s.entropy north_south a t) nothing) (lt-ltb a s.sizes.strands h) (lt-ltb t s.sizes.strands k)
+      ∙ ap₂ (pair_energy s north_south) (digits_mod t small) (digits_div t small)
+      ∙ ap₂ (λ (p q : Bool). cond (p && q) (edge_energy s north_south a t) nothing) (lt-ltb a s.sizes.strands h) (lt-ltb t s.sizes.strands k)
 
   site_is : (k t : ℕ) → k < bays s.sizes → s.sizes.strands ≤ most_strands → t < s.sizes.strands
-      → get_or (bay_row (site_table s.sizes s.strand_glues s.scaffold s.delta_g s.entropy s.logs) k) t nan
-      ≡ bay_energy s.sizes s.strand_glues s.scaffold s.delta_g s.entropy s.logs (bay k) t
+      → get_or (bay_row (site_table s) k) t nan
+      ≡ bay_energy s (bay k) t
   site_is k t h few ht =
-      let site : ℕ → ℕ → Float = site_energy s.sizes s.strand_glues s.scaffold s.delta_g s.entropy s.logs in
-      let table = site_table s.sizes s.strand_glues s.scaffold s.delta_g s.entropy s.logs in
+      let site : ℕ → ℕ → Float = site_energy s in
+      let table = site_table s in
       let small : t < most_strands = lt_of_lt_of_le ht few in
       get_or-take most_strands (drop (k * most_strands) table) t nan small
       ∙ get_or-drop (k * most_strands) table t nan
       ∙ tab_at (λ (i : ℕ). site (bay (i / most_strands)) (i % most_strands)) (bays s.sizes * most_strands) (k * most_strands + t) nan (digits_lt h small)
       ∙ ap₂ (λ (j u : ℕ). site (bay j) u) (digits_div k small) (digits_mod k small)
-      ∙ ap (λ (p : Bool). cond p (bay_energy s.sizes s.strand_glues s.scaffold s.delta_g s.entropy s.logs (bay k) t) nothing) (lt-ltb t s.sizes.strands ht)
+      ∙ ap (λ (p : Bool). cond p (bay_energy s (bay k) t) nothing) (lt-ltb t s.sizes.strands ht)
 
   pub added_by : (k a u t : ℕ) → k < bays s.sizes → s.sizes.strands ≤ most_strands → a < s.sizes.strands → u < s.sizes.strands → t < s.sizes.strands
       → (scan_by s may).added k a u t ≡ bay_number s k a u t

@@ -1,15 +1,15 @@
 -- What passed tests give a run: sizes that fit, and a strand that may lie there for each bay. Assumes nothing.
 use Prim.Native.Nat.{ℕ, ◌^◌, ◌≤◌, ◌<◌}
-use mathlib.Core.Path.{◌≡◌, sym, ◌∙◌, ap, subst}
+use mathlib.Core.Path.{◌≡◌, sym, ◌∙◌, subst}
 use mathlib.Core.Bool.{Bool, true, false, cond}
-use mathlib.Core.List.{List}
 use native.Mathlib.Decide.{dec_lt}
 use native.Mathlib.Omega.{arith}
 use lib.Dec.{leb}
 use lib.ListN.{length, get_or}
 use borrow.Author.Tests.{eqb-true, eq-eqb}
 use Rattle.units.specs.Limits.{most_strands}
-use Rattle.units.specs.Refusals.{Verdict, passes, refuses, number_in}
+use Rattle.units.specs.declared.refusal.Refusal.{Refusal}
+use Rattle.units.specs.Refusals.{Verdict, passes, refuses}
 use Rattle.sets.proofs.Words.{word_lt}
 use Rattle.sets.proofs.Taking.{none_left}
 use Rattle.bay_system.specs.System.{System}
@@ -43,8 +43,8 @@ fit s f =
       some_window = some_side (leb s.sizes.cols s.sizes.rows) s.sizes.rows s.sizes.cols sizes.some_rows sizes.some_cols;
     }
 
-not_both : (v : Verdict) (values : List ℕ) → v ≡ passes → v ≡ refuses 7 values → ⊥
-not_both v values e f = let same : ◌≡◌ {A = ℕ} 0 7 = ap number_in (sym e ∙ f) in absurd (omega (arith, same))
+not_both : (v : Verdict) (r : Refusal) → v ≡ passes → v ≡ refuses r → ⊥
+not_both v r e f = cc
 
 pub filled_by : (s : System) (may : ℕ → ℕ → Bool) → empty_verdict s.sizes.rows s.sizes.cols (sets_to may (bays s.sizes)) ≡ passes → EachHasStrand (scan_by s may) (bays s.sizes)
 filled_by s may passed k h = by (dec_lt 0 (length ((scan_by s may).strands k)))
