@@ -31,12 +31,7 @@ pub fn put_bay(
 }
 
 // The name of a tile, nothing for an empty bay.
-fn put_tile_label(
-    names: &StrandNames<'_>,
-    tile: u32,
-    out: &mut [u8],
-    at: usize,
-) -> usize
+fn put_tile_label(names: &StrandNames<'_>, tile: u32, out: &mut [u8], at: usize) -> usize
     ensures { let n = strand_names_of names.now in
         Put out.old at (tile_label n tile) result out.new }
 {

@@ -30,9 +30,7 @@ pub fn put_layout(
     let mut bay = 0;
     let mut left = rows;
     while 0 < left {
-        next = put_row(
-            layout, names, bay, cols, width, out, next,
-        );
+        next = put_row(layout, names, bay, cols, width, out, next);
         bay = least_sum(bay, cols, layout.len());
         left -= 1;
     }
@@ -59,9 +57,7 @@ fn put_row(
     while 0 < left {
         left -= 1;
         let tile = tile_at(layout, bay);
-        next = put_bay(
-            names, tile, width, left, out, next,
-        );
+        next = put_bay(names, tile, width, left, out, next);
         bay = least_sum(bay, 1, layout.len());
     }
     put_text(out, next, b"\n")

@@ -9,7 +9,7 @@ use Rattle.plan_layout_text.proofs.put_layout.Goals as goal
 
 pub loop-left-init : goal.loop-left-init
 loop-left-init c = let a = c.args in
-    starts_anywhere (rows_text (strand_names_of a.names.now) c.widest_bay-width.result a.cols a.layout.now a.rows) c.least-next.ensures
+    starts_anywhere (rows_text (strand_names_of a.names.now) c.widest_bay-width.result a.cols a.layout.now a.rows) c.min-next.ensures
 
 pub put_row-next-requires : goal.put_row-next-requires
 put_row-next-requires c = c.loop-left.invariant.within
