@@ -36,9 +36,7 @@ pub fn put_svg(
         return put_text(out, at, b"");
     }
     let first = put_head(across(cols), 80 * (rows as u64) + 124, energy, out, at);
-    let end = put_rows(
-        rows, cols, layout, names, marks, out, first,
-    );
+    let end = put_rows(rows, cols, layout, names, marks, out, first);
     put_foot(80 * (rows as u64) + 78, out, end)
 }
 
@@ -76,9 +74,7 @@ fn put_rows(
     let mut bay = 0;
     let mut row = 0;
     while row < rows {
-        next = put_row(
-            row, cols, layout, names, marks, bay, out, next,
-        );
+        next = put_row(row, cols, layout, names, marks, bay, out, next);
         bay += cols;
         row += 1;
     }
