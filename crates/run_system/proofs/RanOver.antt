@@ -1,6 +1,6 @@
 -- From what the ledger's run answers and leaves to what the run over a grid does. Assumes nothing.
 use Prim.Native.Nat.{ℕ, ◌*◌, ◌<◌}
-use mathlib.Core.Path.{◌≡◌, sym, ◌∙◌, ap, subst}
+use mathlib.Core.Path.{◌≡◌, sym, ◌∙◌, ap, ap₂, subst}
 use mathlib.Core.Bool.{Bool, true, false, not, cond}
 use mathlib.Core.List.{List}
 use native.Mathlib.Nat.{mul-pos}
@@ -13,6 +13,7 @@ use Rattle.bay_scan_order.specs.Scan.{window, number_at}
 use Rattle.ledger_rows.specs.Scan.{Scan}
 use Rattle.ledger_rows.specs.Blocks.{tab, energy_table, note_table}
 use Rattle.ledger_rows.specs.Trace.{answer, answer_row, layout}
+use Rattle.ledger_row_choice.specs.declared.Bonds.{Bonds}
 use Rattle.ledger_fill.specs.Handed.{run_scan}
 use Rattle.ledger_way_back.specs.Tracing.{in_order}
 use Rattle.ledger_run.specs.Run.{if_answered, table_left, LedgerRan}
@@ -23,16 +24,16 @@ use Rattle.run_system.proofs.Ordered.{length_trace, laid_out}
 pub some_bays : {rows cols scan lent : ℕ} → OnBoard rows cols scan lent → 0 < scan
 some_bays on = subst (λ (n : ℕ). 0 < n) (sym on.scanned) (mul-pos on.some_rows on.some_cols)
 
-module _ (rows cols w : ℕ) (scan : List ℕ) (sites major side : List Float) (is : w ≡ window rows cols) (long : length scan ≡ rows * cols) where
+module _ (rows cols w : ℕ) (scan : List ℕ) (sites : List Float) (bonds : Bonds) (is : w ≡ window rows cols) (long : length scan ≡ rows * cols) where
   abbrev z : Scan
-  z = run_scan (window rows cols) scan sites major side
+  z = run_scan (window rows cols) scan sites bonds
 
   abbrev given : Scan
-  given = run_scan w scan sites major side
+  given = run_scan w scan sites bonds
 
   -- the window and the count as the code has them
   as_is : {A : Type 0} (f : Scan → ℕ → A) → f given (length scan) ≡ f z (rows * cols)
-  as_is f = ap (λ (v : ℕ). f (run_scan v scan sites major side) (length scan)) is ∙ ap (f z) long
+  as_is f = ap (λ (v : ℕ). f (run_scan v scan sites bonds) (length scan)) is ∙ ap (f z) long
 
   module _ {r : Float} {o₀ o₁ : List ℕ} {e₀ e₁ : List Float} {n₀ n₁ : List ℕ} (ran : LedgerRan given (length scan) r o₀ o₁ e₀ e₁ n₀ n₁) where
     sum_is : r ≡ answer z (rows * cols)
@@ -73,7 +74,7 @@ module _ (rows cols w : ℕ) (scan : List ℕ) (sites major side : List Float) (
         }
 
 -- the tables of bonds by what they hold
-pub ran_same : (scan : List Float → List Float → Scan) (rows cols : ℕ) (r : Float) (l₀ l₁ : List ℕ) (e₀ e₁ : List Float) (n₀ n₁ : List ℕ) {major major' side side' : List Float}
-    → major ≡ major' → side ≡ side' → Ran (scan major side) rows cols r l₀ l₁ e₀ e₁ n₀ n₁ → Ran (scan major' side') rows cols r l₀ l₁ e₀ e₁ n₀ n₁
-ran_same scan rows cols r l₀ l₁ e₀ e₁ n₀ n₁ {major' = major'} {side = side} m s ran =
-    subst (λ (x : List Float). Ran (scan major' x) rows cols r l₀ l₁ e₀ e₁ n₀ n₁) s (subst (λ (x : List Float). Ran (scan x side) rows cols r l₀ l₁ e₀ e₁ n₀ n₁) m ran)
+pub ran_same : (scan : Bonds → Scan) (rows cols : ℕ) (r : Float) (l₀ l₁ : List ℕ) (e₀ e₁ : List Float) (n₀ n₁ : List ℕ) {bonds bonds' : Bonds}
+    → bonds.major ≡ bonds'.major → bonds.side ≡ bonds'.side → Ran (scan bonds) rows cols r l₀ l₁ e₀ e₁ n₀ n₁ → Ran (scan bonds') rows cols r l₀ l₁ e₀ e₁ n₀ n₁
+ran_same scan rows cols r l₀ l₁ e₀ e₁ n₀ n₁ m s ran =
+    subst (λ (b : Bonds). Ran (scan b) rows cols r l₀ l₁ e₀ e₁ n₀ n₁) (ap₂ (λ (x y : List Float). record { major = x; side = y }) m s) ran

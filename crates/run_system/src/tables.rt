@@ -5,7 +5,7 @@ ghost use Rattle.ledger_fill.specs.Handed.{run_scan, Fillable};
 ghost use Rattle.run_system.specs.Steps.{OnBoard, Ran};
 
 use energy_bays::is_bad;
-use ledger_row_choice::PAIRS;
+use ledger_row_choice::Bonds;
 use run_scan_tables::{lay_out, window};
 
 // Fills the ledger from the tables of a run and lays out what its notes lead back to. The strands in scan order stand in `order` for a while.
@@ -14,8 +14,7 @@ pub(crate) fn run_over(
     cols: usize,
     scan: &[u64],
     sites: &[f64],
-    major: &[f64; PAIRS],
-    side: &[f64; PAIRS],
+    bonds: &Bonds,
     order: &mut [u32],
     layout: &mut [u32],
     energies: &mut [f64],
@@ -24,15 +23,14 @@ pub(crate) fn run_over(
     requires fillable { Fillable (window rows cols) scan.now sites.now (length energies.old) (length notes.old) }
     requires on_board { OnBoard rows cols (length scan.now) (length layout.old) }
     requires order_len { length order.old ≡ length scan.now }
-    ensures { let k = run_scan (window rows cols) scan.now sites.now major.now side.now in
+    ensures { let k = run_scan (window rows cols) scan.now sites.now bonds.now in
         Ran k rows cols result layout.old layout.new energies.old energies.new notes.old notes.new }
 {
     let sum = ledger_run::run(
         window(rows, cols),
         scan,
         sites,
-        major,
-        side,
+        bonds,
         order,
         energies,
         notes,

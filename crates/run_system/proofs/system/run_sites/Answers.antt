@@ -7,6 +7,7 @@ use native.Mathlib.Omega.{arith}
 use lib.Ieee.{Float}
 use lib.ListN.{take}
 use Rattle.units.specs.Limits.{most_strands}
+use Rattle.bay_system.specs.System.{system_of}
 use Rattle.bay_scan_order.specs.Scan.{window, bay_at}
 use Rattle.bay_legal.proofs.Fronts.{front_fits}
 use Rattle.ledger_rows.specs.Scan.{Scan}
@@ -28,9 +29,9 @@ fill_sites-requires c = let on = c.requires.on_board in
 pub run_fronts-requires : goal.run_fronts-requires
 run_fronts-requires c = let a = c.args in
     let on = c.requires.on_board in
-    let count = a.z.rows * a.z.cols * most_strands in
-    let bay : ℕ → ℕ → Float = site_energy a.z a.strand_glues.now a.scaffold.now a.delta_g.now a.entropy.now a.logs.now in
-    let long = length_tab (λ (i : ℕ). bay (bay_at a.z.rows a.z.cols (i / most_strands)) (i % most_strands)) count in
+    let s = system_of a.system.now in
+    let count = s.sizes.rows * s.sizes.cols * most_strands in
+    let long = length_tab (λ (i : ℕ). site_energy s (bay_at s.sizes.rows s.sizes.cols (i / most_strands)) (i % most_strands)) count in
     record {
       roomy = c.requires.roomy;
       on_board = on;
@@ -40,7 +41,8 @@ run_fronts-requires c = let a = c.args in
 pub returns : goal.returns
 returns c = let a = c.args in
     let after = c.run_fronts.new in
-    let scan : List Float → Scan = λ sites. run_scan (window a.z.rows a.z.cols) a.scan.now sites a.major.now a.side.now in
+    let z = a.system.now.sizes in
+    let scan : List Float → Scan = λ sites. run_scan (window z.rows z.cols) a.scan.now sites a.bonds.now in
     subst
-    (λ (sites : List Float). Ran (scan sites) a.z.rows a.z.cols c.run_fronts.result a.layout.now after.layout a.energies.now after.energies a.notes.now after.notes)
+    (λ (sites : List Float). Ran (scan sites) z.rows z.cols c.run_fronts.result a.layout.now after.layout a.energies.now after.energies a.notes.now after.notes)
     (ap (λ (k : ℕ). take (k * most_strands) c.fill_sites.new.sites) c.requires.on_board.scanned ∙ c.fill_sites.ensures) c.run_fronts.ensures

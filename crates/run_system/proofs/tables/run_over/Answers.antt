@@ -15,10 +15,10 @@ run-sum-requires c =
 
 pub returns-then-is_bad : goal.returns-then-is_bad
 returns-then-is_bad c = let a = c.args in
-    ran_bad a.rows a.cols c.window.result a.scan.now a.sites.now a.major.now a.side.now c.window.ensures c.requires.on_board.scanned
+    ran_bad a.rows a.cols c.window.result a.scan.now a.sites.now a.bonds.now c.window.ensures c.requires.on_board.scanned
     c.run-sum.ensures a.layout.now c.is_bad.ensures c.if-is_bad.true
 
 pub returns : goal.returns
 returns c = let a = c.args in
-    ran_good a.rows a.cols c.window.result a.scan.now a.sites.now a.major.now a.side.now c.window.ensures c.requires.on_board.scanned
+    ran_good a.rows a.cols c.window.result a.scan.now a.sites.now a.bonds.now c.window.ensures c.requires.on_board.scanned
     c.run-sum.ensures a.layout.now _ c.is_bad.ensures c.if-is_bad.false c.lay_out.ensures
