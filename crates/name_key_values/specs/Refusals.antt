@@ -1,7 +1,8 @@
 -- What is refused of what a key gives. Assumes nothing.
-use Rattle.std.specs.Prelude.{ℕ, not, ◌&&◌, List, [], ◌∷◌, Float, length}
+use Rattle.std.specs.Prelude.{ℕ, not, ◌&&◌, List, Float, length}
 use Rattle.units.specs.Finite.{finite}
 use Rattle.units.specs.Refusals.{Verdict, refuse_if}
+use Rattle.units.specs.declared.refusal.Refusal.TheVariants.{Energy}
 use Rattle.dna_single.specs.Single.{sequence_verdict}
 use Rattle.text_entries.specs.Entries.{part}
 use Rattle.text_entries.specs.InOrder.{each_from}
@@ -11,7 +12,7 @@ use Rattle.name_key_values.specs.Values.{Values, value_at}
 
 -- 3, with the key's place: ΔG or ΔS is not finite
 abbrev pub numbers_verdict : (key : ℕ) → (dg ds : Float) → Verdict
-numbers_verdict key dg ds = refuse_if (not (finite dg && finite ds)) 3 (key ∷ [])
+numbers_verdict key dg ds = refuse_if (not (finite dg && finite ds)) (Energy key)
 
 -- what is refused of a value; for a sequence the key's place is 11's sequence
 abbrev pub value_verdict : (key : ℕ) → (sequences : List ℕ) → GsOrSeq → Verdict

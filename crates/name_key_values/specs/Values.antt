@@ -4,6 +4,7 @@ use Rattle.std.specs.Float.{nan}
 use Rattle.units.specs.declared.BaseEnergy.{BaseEnergy}
 use Rattle.dna_single.specs.Single.{single_energy}
 use Rattle.text_entries.specs.Entries.{part}
+use Rattle.name_key_values.specs.declared.KeyValues.{KeyValues}
 use Rattle.name_key_values.specs.declared.GsOrSeq.{GsOrSeq}
 use Rattle.name_key_values.specs.declared.GsOrSeq.TheVariants.{GS, Seq}
 
@@ -16,6 +17,10 @@ pub record Values : Type 0 where
 
 abbrev pub values : (kinds : List ℕ) → (numbers : List Float) → (sequences sequence_offsets : List ℕ) → Values
 values kinds numbers sequences sequence_offsets = record { kinds = kinds; numbers = numbers; sequences = sequences; sequence_offsets = sequence_offsets }
+
+-- as they are lent
+abbrev pub values_of : KeyValues → Values
+values_of lent = values lent.kinds.now lent.numbers.now lent.sequences.text.now lent.sequences.offsets.now
 
 -- the numbers 2k and 2k + 1, and the sequence at entry k
 abbrev pub numbers_at : (numbers : List Float) → ℕ → GsOrSeq

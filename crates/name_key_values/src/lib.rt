@@ -2,13 +2,12 @@
 #![tactic(auto)]
 
 ghost use Rattle.std.specs.Prelude.{◌≡◌, ◌+◌, ◌<◌, length};
-ghost use Rattle.units.specs.Refusals.{check};
-ghost use Rattle.name_key_values.specs.Values.{values, numbers_at, sequence_at, value_at, gs_or_seq_to_gs, key_energy};
-ghost use Rattle.name_key_values.specs.Refusals.{numbers_verdict, value_verdict, key_verdict, values_verdict};
+ghost use Rattle.name_key_values.specs.Values.{values_of, value_at, gs_or_seq_to_gs, key_energy};
+ghost use Rattle.name_key_values.specs.Refusals.{value_verdict, key_verdict, values_verdict};
 
 use dna_single::{check_single, single_energy};
-use text_entries::part_of;
-use units::{BaseEnergy, Check, is_finite, refused_with};
+use text_entries::{Entries, part_of};
+use units::{BaseEnergy, Refusal, is_finite};
 
 // ΔG and ΔS, or the offsets of a sequence in the sequences' text.
 #[derive(Clone, Copy)]
@@ -17,33 +16,51 @@ pub enum GsOrSeq {
     Seq(usize, usize),
 }
 
-// Two floats, those of key k.
-fn numbers_at(numbers: &[f64], k: usize) -> GsOrSeq
-    requires { k + k + 1 < length numbers.now }
-    ensures { result ≡ numbers_at numbers.now k }
-{
-    GsOrSeq::GS(numbers[k + k], numbers[k + k + 1])
+// The keys' values as they are lent: a kind for each key, and for each two numbers and a sequence, of which the kind says what counts.
+#[derive(Clone, Copy)]
+pub struct KeyValues<'a> {
+    pub kinds: &'a [u8],
+    pub numbers: &'a [f64],
+    pub sequences: Entries<'a>,
 }
 
-// A sequence, that of key k.
-fn sequence_at(sequence_offsets: &[usize], k: usize) -> GsOrSeq
-    requires { k + 1 < length sequence_offsets.now }
-    ensures { result ≡ sequence_at sequence_offsets.now k }
-{
-    GsOrSeq::Seq(sequence_offsets[k], sequence_offsets[k + 1])
-}
-
-// What key k gives.
-fn value_at(kinds: &[u8], numbers: &[f64], sequence_offsets: &[usize], k: usize) -> GsOrSeq
-    requires k_in_bounds { k < length kinds.now }
-    requires numbers_len { length numbers.now ≡ length kinds.now + length kinds.now }
-    requires sequence_offsets_len { length sequence_offsets.now ≡ length kinds.now + 1 }
-    ensures { result ≡ value_at kinds.now numbers.now sequence_offsets.now k }
-{
-    if kinds[k] == 1 {
-        return sequence_at(sequence_offsets, k);
+impl KeyValues<'_> {
+    // What key k gives.
+    fn value(&self, k: usize) -> GsOrSeq
+        requires k_in_bounds { k < length self.now.kinds.now }
+        requires numbers_len { length self.now.numbers.now ≡ length self.now.kinds.now + length self.now.kinds.now }
+        requires sequence_offsets_len { length self.now.sequences.offsets.now ≡ length self.now.kinds.now + 1 }
+        ensures { result ≡ value_at self.now.kinds.now self.now.numbers.now self.now.sequences.offsets.now k }
+    {
+        if self.kinds[k] == 1 {
+            GsOrSeq::Seq(self.sequences.offsets[k], self.sequences.offsets[k + 1])
+        } else {
+            GsOrSeq::GS(self.numbers[k + k], self.numbers[k + k + 1])
+        }
     }
-    numbers_at(numbers, k)
+
+    // The energy of key k.
+    pub fn energy(&self, k: usize) -> BaseEnergy
+        requires k_in_bounds { k < length self.now.kinds.now }
+        requires numbers_len { length self.now.numbers.now ≡ length self.now.kinds.now + length self.now.kinds.now }
+        requires sequence_offsets_len { length self.now.sequences.offsets.now ≡ length self.now.kinds.now + 1 }
+        ensures { result ≡ key_energy (values_of self.now) k }
+    {
+        gsorseq_to_gs(self.value(k), self.sequences.text)
+    }
+
+    // What is refused of the values of all keys, in list order.
+    #[tactic(auto, using(text_entries::proofs::InOrder::each_more, text_entries::proofs::InOrder::each_refused, text_entries::proofs::InOrder::each_done,))]
+    pub fn check(&self) -> Result<(), Refusal>
+        requires numbers_len { length self.now.numbers.now ≡ length self.now.kinds.now + length self.now.kinds.now }
+        requires sequence_offsets_len { length self.now.sequences.offsets.now ≡ length self.now.kinds.now + 1 }
+        ensures { result ≡ values_verdict (values_of self.now) }
+    {
+        for k in 0..self.kinds.len() {
+            check_value(self.value(k), self.sequences.text, k)?;
+        }
+        Ok(())
+    }
 }
 
 // The energy that a value comes to.
@@ -56,79 +73,13 @@ pub fn gsorseq_to_gs(value: GsOrSeq, sequences: &[u8]) -> BaseEnergy
     }
 }
 
-// The energy of key k.
-pub fn key_energy(
-    kinds: &[u8],
-    numbers: &[f64],
-    sequences: &[u8],
-    sequence_offsets: &[usize],
-    k: usize,
-) -> BaseEnergy
-    requires k_in_bounds { k < length kinds.now }
-    requires numbers_len { length numbers.now ≡ length kinds.now + length kinds.now }
-    requires sequence_offsets_len { length sequence_offsets.now ≡ length kinds.now + 1 }
-    ensures { let v = values kinds.now numbers.now sequences.now sequence_offsets.now in
-        result ≡ key_energy v k }
-{
-    gsorseq_to_gs(value_at(kinds, numbers, sequence_offsets, k), sequences)
-}
-
-// Refusal 3 with the key's place where a number is not finite.
-fn check_numbers(dg: f64, ds: f64, key: usize) -> Check
-    ensures { result ≡ check (numbers_verdict key dg ds) }
-{
-    if is_finite(dg) & is_finite(ds) {
-        return Check::Passed;
-    }
-    refused_with(3, key)
-}
-
-// What is refused of the value of a key.
-fn check_value(value: GsOrSeq, sequences: &[u8], key: usize) -> Check
-    ensures { result ≡ check (value_verdict key sequences.now value) }
+// What is refused of the value of a key: a number that is not finite, with the key's place, or what its sequence is refused for.
+fn check_value(value: GsOrSeq, sequences: &[u8], key: usize) -> Result<(), Refusal>
+    ensures { result ≡ value_verdict key sequences.now value }
 {
     match value {
-        GsOrSeq::GS(dg, ds) => check_numbers(dg, ds, key),
+        GsOrSeq::GS(dg, ds) if is_finite(dg) && is_finite(ds) => Ok(()),
+        GsOrSeq::GS(_, _) => Err(Refusal::Energy(key)),
         GsOrSeq::Seq(from, to) => check_single(part_of(sequences, from, to), key),
     }
-}
-
-// What is refused of key k.
-fn check_key(
-    kinds: &[u8],
-    numbers: &[f64],
-    sequences: &[u8],
-    sequence_offsets: &[usize],
-    k: usize,
-) -> Check
-    requires k_in_bounds { k < length kinds.now }
-    requires numbers_len { length numbers.now ≡ length kinds.now + length kinds.now }
-    requires sequence_offsets_len { length sequence_offsets.now ≡ length kinds.now + 1 }
-    ensures { let v = values kinds.now numbers.now sequences.now sequence_offsets.now in
-        result ≡ check (key_verdict v k) }
-{
-    check_value(value_at(kinds, numbers, sequence_offsets, k), sequences, k)
-}
-
-// What is refused of the values of all keys, in list order.
-pub fn check_values(
-    kinds: &[u8],
-    numbers: &[f64],
-    sequences: &[u8],
-    sequence_offsets: &[usize],
-) -> Check
-    requires numbers_len { length numbers.now ≡ length kinds.now + length kinds.now }
-    requires sequence_offsets_len { length sequence_offsets.now ≡ length kinds.now + 1 }
-    ensures { let v = values kinds.now numbers.now sequences.now sequence_offsets.now in
-        result ≡ check (values_verdict v) }
-{
-    let mut k = 0;
-    while k < kinds.len() {
-        match check_key(kinds, numbers, sequences, sequence_offsets, k) {
-            Check::Refused(r) => return Check::Refused(r),
-            Check::Passed => (),
-        }
-        k += 1;
-    }
-    Check::Passed
 }
