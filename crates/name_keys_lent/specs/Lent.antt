@@ -1,7 +1,8 @@
 -- What is lent to a list of keys, and what is refused of it. Assumes nothing.
-use Rattle.std.specs.Prelude.{ℕ, ◌+◌, ◌*◌, ◌≡◌, Bool, true, not, ◌&&◌, List, [], eqb, leb, length}
+use Rattle.std.specs.Prelude.{ℕ, ◌+◌, ◌*◌, ◌≡◌, Bool, true, not, ◌&&◌, List, eqb, leb, length}
 use Rattle.units.specs.Limits.{most_bases, base_numbers, most_name_bytes}
 use Rattle.units.specs.Refusals.{Verdict, refuse_if, ◌▷◌}
+use Rattle.units.specs.declared.refusal.Refusal.TheVariants.{Size, Unreadable}
 use Rattle.text_entries.specs.Entries.{offsets_fit, are_flags}
 use Rattle.name_base_list.specs.Bases.{bases_fit}
 use Rattle.name_key_values.specs.Values.{Values}
@@ -29,7 +30,7 @@ keys_sized n v delta_g entropy =
     && matrices_fit (length n.bases) n.count delta_g entropy
 
 abbrev pub keys_sizes : KeyNames → Values → (delta_g entropy : ℕ) → Verdict
-keys_sizes n v delta_g entropy = refuse_if (not (keys_sized n v delta_g entropy)) 1 []
+keys_sizes n v delta_g entropy = refuse_if (not (keys_sized n v delta_g entropy)) Size
 
 -- 17: a presence or kind byte is not 0 or 1, an offset falls or overruns its text, or a base does
 abbrev pub keys_read : KeyNames → (kinds sequences sequence_offsets : List ℕ) → Bool
@@ -39,7 +40,7 @@ keys_read n kinds sequences sequence_offsets =
     && offsets_fit (length sequences) sequence_offsets)
 
 abbrev pub keys_reading : KeyNames → Values → Verdict
-keys_reading n v = refuse_if (not (keys_read n v.kinds v.sequences v.sequence_offsets)) 17 []
+keys_reading n v = refuse_if (not (keys_read n v.kinds v.sequences v.sequence_offsets)) Unreadable
 
 -- what is lent: 1, then 17
 abbrev pub lent_verdict : KeyNames → Values → (delta_g entropy : ℕ) → Verdict
