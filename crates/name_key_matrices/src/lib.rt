@@ -3,24 +3,20 @@
 
 ghost use Rattle.std.specs.Prelude.{◌≡◌, ◌*◌, ◌<◌, length, replicate};
 ghost use Rattle.units.specs.Decimals.{plus};
-ghost use Rattle.name_key_values.specs.Values.{values};
-ghost use Rattle.name_keys.specs.Names.{key_names};
+ghost use Rattle.name_key_values.specs.Values.{values_of};
+ghost use Rattle.name_keys.specs.Names.{key_names_of};
 ghost use Rattle.name_key_matrices.specs.Matrices.{set_both, set_joined, InSide, delta_g as delta_g_matrix, delta_s as delta_s_matrix};
 ghost use Rattle.name_keys_lent.specs.Lent.{Lent};
 
-use name_key_values::key_energy;
-use name_keys::{Joined, key_joined};
+use name_key_values::KeyValues;
+use name_keys::{Joined, KeyNames};
 use units::BaseEnergy;
 
 // 0.0 everywhere.
 fn clear(matrix: &mut [f64])
     ensures { matrix.new ≡ replicate (length matrix.old) (plus 0 1) }
 {
-    let mut i = 0;
-    while i < matrix.len() {
-        matrix[i] = 0.0;
-        i += 1;
-    }
+    matrix.fill(0.0);
 }
 
 // Sets cells (i, j) and (j, i) to a number.
@@ -55,38 +51,21 @@ fn set_key(
     }
 }
 
-// Both matrices as the keys leave them.
+// Both matrices as the keys leave them: 0.0 everywhere, then key by key.
 pub fn set_keys(
-    text: &[u8],
-    offsets: &[usize],
-    paired: &[u8],
-    kinds: &[u8],
-    numbers: &[f64],
-    sequences: &[u8],
-    sequence_offsets: &[usize],
-    bases: &[usize],
-    count: usize,
+    names: &KeyNames<'_>,
+    values: &KeyValues<'_>,
     delta_g: &mut [f64],
     entropy: &mut [f64],
 )
-    requires { let n = key_names text.now offsets.now paired.now bases.now count in
-        let v = values kinds.now numbers.now sequences.now sequence_offsets.now in
-        Lent n v (length delta_g.old) (length entropy.old) }
-    ensures delta_g_after { let n = key_names text.now offsets.now paired.now bases.now count in
-        let v = values kinds.now numbers.now sequences.now sequence_offsets.now in
-        delta_g.new ≡ delta_g_matrix n v }
-    ensures entropy_after { let n = key_names text.now offsets.now paired.now bases.now count in
-        let v = values kinds.now numbers.now sequences.now sequence_offsets.now in
-        entropy.new ≡ delta_s_matrix n v }
+    requires { Lent (key_names_of names.now) (values_of values.now) (length delta_g.old) (length entropy.old) }
+    ensures delta_g_after { delta_g.new ≡ delta_g_matrix (key_names_of names.now) (values_of values.now) }
+    ensures entropy_after { entropy.new ≡ delta_s_matrix (key_names_of names.now) (values_of values.now) }
 {
     clear(delta_g);
     clear(entropy);
-    let side = count + count + 1;
-    let mut k = 0;
-    while k < kinds.len() {
-        let energy = key_energy(kinds, numbers, sequences, sequence_offsets, k);
-        let joined = key_joined(text, offsets, paired, bases, count, k);
-        set_key(joined, energy, side, delta_g, entropy);
-        k += 1;
+    let side = names.count + names.count + 1;
+    for k in 0..values.kinds.len() {
+        set_key(names.joined(k), values.energy(k), side, delta_g, entropy);
     }
 }
