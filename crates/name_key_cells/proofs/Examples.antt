@@ -8,8 +8,9 @@ use lib.ListN.{replicate}
 use Rattle.units.specs.Decimals.{decimal, plus, minus}
 use Rattle.units.specs.Finite.{finite}
 use Rattle.units.specs.Refusals.{passes, refuses}
+use Rattle.units.specs.declared.refusal.Refusal.TheVariants.{Size, Energy, Unreadable}
 use Rattle.dna_single.specs.Single.{single_energy}
-use Rattle.text_entries.specs.Entries.{offsets_from, are_flags, same_bytes}
+use Rattle.text_entries.specs.Entries.{offsets_from, are_flags}
 use Rattle.name_stars.specs.Stars.{before_stars}
 use Rattle.text_entries.specs.InOrder.{first_from, each_from}
 use Rattle.name_base_list.specs.Bases.{bases_fit_from}
@@ -64,15 +65,15 @@ pub the_matrix : delta_g four_names four_values
     ∷ o ∷ o ∷ aa ∷ o ∷ o
     ∷ o ∷ minus 3 1 ∷ o ∷ o ∷ o
     ∷ [])
-unfolding matrix_to first_from same_bytes before_stars
+unfolding matrix_to first_from before_stars
 the_matrix = refl
 
 -- a number that is not finite is refused with its key's place, although the key would be skipped
-pub an_infinity : keys_verdict four_names (numbers_with (inf false)) 25 25 ≡ refuses 3 (2 ∷ [])
+pub an_infinity : keys_verdict four_names (numbers_with (inf false)) 25 25 ≡ refuses (Energy 2)
 unfolding each_from finite decimal offsets_from are_flags bases_fit_from
 an_infinity = refl
 
-pub a_nan : keys_verdict four_names (numbers_with nan) 25 25 ≡ refuses 3 (2 ∷ [])
+pub a_nan : keys_verdict four_names (numbers_with nan) 25 25 ≡ refuses (Energy 2)
 unfolding each_from finite decimal offsets_from are_flags bases_fit_from
 a_nan = refl
 
@@ -81,9 +82,9 @@ unfolding each_from finite decimal offsets_from are_flags bases_fit_from
 all_finite = refl
 
 -- sizes come before flags, and flags before keys
-pub a_flag : keys_verdict (names_with (0 ∷ 1 ∷ 2 ∷ 1 ∷ [])) (numbers_with nan) 25 25 ≡ refuses 17 []
+pub a_flag : keys_verdict (names_with (0 ∷ 1 ∷ 2 ∷ 1 ∷ [])) (numbers_with nan) 25 25 ≡ refuses Unreadable
 unfolding are_flags
 a_flag = refl
 
-pub a_side : keys_verdict (names_with (0 ∷ 1 ∷ 2 ∷ 1 ∷ [])) (numbers_with nan) 25 24 ≡ refuses 1 []
+pub a_side : keys_verdict (names_with (0 ∷ 1 ∷ 2 ∷ 1 ∷ [])) (numbers_with nan) 25 24 ≡ refuses Size
 a_side = refl
