@@ -2,7 +2,7 @@
 use Prim.Native.Nat.{ℕ, ◌*◌}
 use mathlib.Core.Path.{◌≡◌}
 use mathlib.Core.Bool.{not}
-use mathlib.Core.List.{List, []}
+use mathlib.Core.List.{List}
 use lib.Dec.{eqb}
 use lib.ListN.{length}
 use borrow.Author.Tests.{eqb-true, not-false}
@@ -17,4 +17,4 @@ each_bay s layout passed =
     let shape = shape_verdict s.sizes layout in
     let strands = strands_verdict s.sizes layout in
     let fits = eqb (length layout) (s.sizes.rows * s.sizes.cols) in
-    eqb-true (length layout) _ (not-false fits (no_fault (not fits) 5 [] (first_passes shape strands (rest_passes (system_verdict s) (shape ▷ strands) passed))))
+    eqb-true (length layout) _ (not-false fits (no_fault (not fits) _ (first_passes shape strands (rest_passes (system_verdict s) (shape ▷ strands) passed))))
