@@ -2,18 +2,20 @@
 use Prim.Native.Nat.{ℕ, zero, suc, ◌+◌, ◌-◌, ◌*◌, ◌≤◌, ◌<◌}
 use mathlib.Core.Bool.{Bool, true, false, cond}
 use mathlib.Core.List.{List}
-use mathlib.Core.Path.{◌≡◌, refl, sym, ap, ◌∙◌}
+use mathlib.Core.Path.{◌≡◌, refl, ap, ◌∙◌}
 use native.Mathlib.Nat.{add_comm, suc-mul, zero-mul, sub-zero}
 use native.Mathlib.Omega.{arith}
-use borrow.Author.Tests.{eq-eqb, ne_eqb, eqb-true}
+use borrow.Author.Tests.{lt-ltb, eq-eqb, ne_eqb, eqb-true}
 use lib.Dec.{eqb}
 use lib.ListN.{length, drop, length-drop}
 use Rattle.sheet_fields.specs.Runs.{past, bytes_in, record_fault}
 use Rattle.sheet_fields.proofs.Runs.{place_within, past_at}
 use Rattle.sheet_cells.specs.Cells.{is_cell, place, sheet_fault}
 use Rattle.sheet_cells.specs.Checks.{count_in, are_cells, line_fault, record_at, sheet_check}
-use Rattle.sheet_cells.specs.declared.SheetCheck.{SheetCheck}
-use Rattle.sheet_cells.specs.declared.cells.RecordCheck.{RecordCheck}
+use Rattle.sheet_cells.specs.declared.cells.Record.{Record}
+use Rattle.units.specs.declared.refusal.Refusal.{Refusal}
+use Rattle.units.specs.declared.refusal.Refusal.TheVariants.{Field}
+use Rattle.std.specs.Prelude.{Result, Ok, Err}
 use Rattle.sheet_cells.proofs.Counts.{count_none, count_add, cells_add, count_within}
 use Rattle.sheet_cells.proofs.Records.{fault_none}
 
@@ -83,22 +85,24 @@ sheet_starts rows columns text =
       sum = rw (sub-zero rows) (omega arith);
     }
 
+-- the sheet's check, by its first fault
+refused_at : (rows columns : ℕ) (text : List ℕ) (line number : ℕ) → sheet_fault columns 1 rows text ≡ place (line + 1) number → Err (Field (line + 1) number) ≡ sheet_check rows columns text
+refused_at rows columns text line number e = rw (e, lt-ltb 0 (line + 1) (omega arith))
+
 module _ (rows columns : ℕ) (text : List ℕ) (line next count : ℕ) (s : InSheet rows columns text line next count) where
   module _ (k : rows ≤ line) where
     none_left : rows - line ≡ 0
     none_left = let w = s.within in omega arith
 
-    pub sheet_surplus : next < length text → ◌≡◌ {A = SheetCheck} (record { line = rows + 1; field = 1; count = 0 }) (sheet_check rows columns text)
+    pub sheet_surplus : next < length text → Err (Field (rows + 1) 1) ≡ sheet_check rows columns text
     unfolding sheet_fault
     sheet_surplus h =
         let w = s.within in
         let some : eqb (length (drop next text)) 0 ≡ false = ne_eqb (length (drop next text)) 0 (let l = length-drop next text in omega arith) in
         let all : line ≡ rows = omega arith in
-        let found : sheet_fault columns 1 rows text ≡ place (rows + 1) 1 = s.fault ∙ rw (none_left, some, all) in
-        let one : eqb (rows + 1) 0 ≡ false = ne_eqb (rows + 1) 0 (omega arith) in
-        rw (found, one)
+        refused_at rows columns text rows 1 (s.fault ∙ rw (none_left, some, all))
 
-    pub sheet_ends : length text ≤ next → ◌≡◌ {A = SheetCheck} (record { line = 0; field = 0; count = count }) (sheet_check rows columns text)
+    pub sheet_ends : length text ≤ next → Ok count ≡ sheet_check rows columns text
     unfolding sheet_fault
     sheet_ends h =
         let over : eqb (length (drop next text)) 0 ≡ true = eq-eqb (length (drop next text)) 0 (let l = length-drop next text in omega arith) in
@@ -106,7 +110,7 @@ module _ (rows columns : ℕ) (text : List ℕ) (line next count : ℕ) (s : InS
         let sum : count_in (rows * columns) text ≡ count = s.sum ∙ rw (none_left, zero-mul columns, count_none (drop next text)) (omega arith) in
         rw (found, sum)
 
-  module _ (more : line < rows) (c : RecordCheck) (e : c ≡ record_at columns text next) where
+  module _ (more : line < rows) where
     abbrev left : ℕ
     left = rows - (line + 1)
 
@@ -119,30 +123,31 @@ module _ (rows columns : ℕ) (text : List ℕ) (line next count : ℕ) (s : InS
     step : sheet_fault columns 1 rows text ≡ cond (eqb (line_fault columns here) 0) (sheet_fault columns (line + 1 + 1) left (past columns here)) (place (line + 1) (line_fault columns here))
     step = s.fault ∙ rw one_more (sheet_step columns (line + 1) left here)
 
-    pub sheet_stops : (c.fault ≡ 0 → ⊥) → ◌≡◌ {A = SheetCheck} (record { line = line + 1; field = c.fault; count = 0 }) (sheet_check rows columns text)
-    sheet_stops some = go (eqb (line_fault columns here) 0) refl
+    pub sheet_stops : (r : Refusal) → Err r ≡ record_at (line + 1) columns text next → Err r ≡ sheet_check rows columns text
+    sheet_stops r e = go (eqb (line_fault columns here) 0) refl
       where
-        go : (q : Bool) → eqb (line_fault columns here) 0 ≡ q → ◌≡◌ {A = SheetCheck} (record { line = line + 1; field = c.fault; count = 0 }) (sheet_check rows columns text)
-        go true k = absurd (some (ap (λ (d : RecordCheck). d.fault) e ∙ rw k))
+        go : (q : Bool) → eqb (line_fault columns here) 0 ≡ q → Err r ≡ sheet_check rows columns text
+        go true k = let z : ◌≡◌ {A = Result Record Refusal} (Err r) (Ok (record { next = next + bytes_in columns here; count = count_in columns here })) = e ∙ rw k in absurd cc
         go false k =
-            let found : sheet_fault columns 1 rows text ≡ place (line + 1) (line_fault columns here) = step ∙ rw k in
-            let same : c.fault ≡ line_fault columns here = ap (λ (d : RecordCheck). d.fault) e ∙ rw k in
-            let one : eqb (line + 1) 0 ≡ false = ne_eqb (line + 1) 0 (omega arith) in
-            rw (found, same, one)
+            let z : ◌≡◌ {A = Result Record Refusal} (Err r) (Err (Field (line + 1) (line_fault columns here))) = e ∙ rw k in
+            let same : r ≡ Field (line + 1) (line_fault columns here) = cc in
+            rw same (refused_at rows columns text line (line_fault columns here) (step ∙ rw k))
 
-    module _ (none : c.fault ≡ 0) where
-      fine : line_fault columns here ≡ 0
-      fine = go (eqb (line_fault columns here) 0) refl
+    module _ (c : Record) (e : Ok c ≡ record_at (line + 1) columns text next) where
+      found : (line_fault columns here ≡ 0) × (c ≡ record { next = next + bytes_in columns here; count = count_in columns here })
+      found = go (eqb (line_fault columns here) 0) refl
         where
-          go : (q : Bool) → eqb (line_fault columns here) 0 ≡ q → line_fault columns here ≡ 0
-          go true k = eqb-true (line_fault columns here) 0 k
-          go false k = sym (ap (λ (d : RecordCheck). d.fault) e ∙ rw k) ∙ none
+          go : (q : Bool) → eqb (line_fault columns here) 0 ≡ q → (line_fault columns here ≡ 0) × (c ≡ record { next = next + bytes_in columns here; count = count_in columns here })
+          go true k =
+              let z : ◌≡◌ {A = Result Record Refusal} (Ok c) (Ok (record { next = next + bytes_in columns here; count = count_in columns here })) = e ∙ rw k in
+              (eqb-true (line_fault columns here) 0 k, cc)
+          go false k = let z : ◌≡◌ {A = Result Record Refusal} (Ok c) (Err (Field (line + 1) (line_fault columns here))) = e ∙ rw k in absurd cc
 
       next_is : c.next ≡ next + bytes_in columns here
-      next_is = ap (λ (d : RecordCheck). d.next) e ∙ rw fine
+      next_is = ap (λ (d : Record). d.next) found.1
 
       count_is : c.count ≡ count_in columns here
-      count_is = ap (λ (d : RecordCheck). d.count) e ∙ rw fine
+      count_is = ap (λ (d : Record). d.count) found.1
 
       rest : drop c.next text ≡ past columns here
       rest = rw next_is (past_at columns text next)
@@ -150,7 +155,7 @@ module _ (rows columns : ℕ) (text : List ℕ) (line next count : ℕ) (s : InS
       pub few_more : count + c.count ≤ c.next
       few_more =
           let few = s.few in
-          let most = count_within columns here (record-cells columns 0 0 here fine) in
+          let most = count_within columns here (record-cells columns 0 0 here found.0) in
           omega (arith, count_is, next_is)
 
       pub inside_more : c.next ≤ length text
@@ -162,6 +167,6 @@ module _ (rows columns : ℕ) (text : List ℕ) (line next count : ℕ) (s : InS
             within = omega arith;
             inside = inside_more;
             few = few_more;
-            fault = step ∙ rw (eq-eqb (line_fault columns here) 0 fine, rest);
+            fault = step ∙ rw (eq-eqb (line_fault columns here) 0 found.0, rest);
             sum = s.sum ∙ rw (one_more, more_bays columns left, count_add columns (left * columns) here, rest, count_is) (omega arith);
           }

@@ -2,10 +2,11 @@
 use Rattle.std.specs.Prelude.{ℕ, zero, suc, ◌+◌, Bool, cond, ◌&&◌, List, [], ◌∷◌, ◌++◌, eqb, ltb, length}
 pub use Rattle.text_fronts.specs.Front.{front}
 use Rattle.units.specs.Refusals.{Verdict, refuse_if}
+use Rattle.units.specs.declared.refusal.Refusal.TheVariants.{Field}
 use Rattle.sheet_fields.specs.Fields.{field, content, after}
 use Rattle.sheet_fields.specs.Runs.{past, record_fault}
 use Rattle.sheet_number_lists.specs.NumberLists.{is_list, list_in}
-use Rattle.sheet_cells.specs.declared.Place.{Place}
+use Rattle.sheet_fields.specs.declared.Place.{Place}
 
 -- the field at the front of a text is sound, and its content is a list
 unfoldable pub is_cell : List ℕ → Bool
@@ -30,7 +31,7 @@ sheet_fault columns line (suc left) t =
 -- 19, with line and field from 1, of the first bad, missing or surplus field
 abbrev pub sheet_verdict : (rows columns : ℕ) → List ℕ → Verdict
 sheet_verdict rows columns t =
-    refuse_if (ltb 0 (sheet_fault columns 1 rows t).line) 19 ((sheet_fault columns 1 rows t).line ∷ (sheet_fault columns 1 rows t).field ∷ [])
+    refuse_if (ltb 0 (sheet_fault columns 1 rows t).line) (Field (sheet_fault columns 1 rows t).line (sheet_fault columns 1 rows t).field)
 
 -- the numbers of all lists, one list after the other, and the offsets at which the lists begin and the last one ends
 unfoldable pub all_tiles : List (List ℕ) → List ℕ

@@ -1,94 +1,66 @@
 // The fields of a sheet one by one, and the fields of one record.
-ghost use Rattle.std.specs.Prelude.{◌≡◌, ◌-◌, ◌≤◌, length, take, drop};
+ghost use Rattle.std.specs.Prelude.{◌≡◌, ◌≤◌, length};
 ghost use Rattle.units.specs.Limits.{most_side};
-ghost use Rattle.sheet_number_lists.specs.Counts.{list_count};
 ghost use Rattle.sheet_cells.specs.Checks.{cell_at, record_at};
 
-use sheet_fields::{field_at, field_fault};
-use sheet_number_lists::{ListCount, count_numbers};
+use sheet_fields::{field_at, goes_on};
+use sheet_number_lists::count_numbers;
+use units::Refusal;
 
-// A field of a sheet: whether it is sound with a list for its content, whether its record goes on, the place after it, and how many
-// numbers it has.
+// A field of a sheet with a list for its content: whether its record goes on, the place after it, and how many numbers it has.
 #[derive(Clone, Copy)]
-pub(crate) struct Cell {
-    pub(crate) sound: bool,
-    pub(crate) more: bool,
+struct Cell {
+    more: bool,
+    next: usize,
+    count: usize,
+}
+
+// A record of a sheet without a fault: the place after it, and how many numbers it has.
+#[derive(Clone, Copy)]
+pub(crate) struct Record {
     pub(crate) next: usize,
     pub(crate) count: usize,
 }
 
-// A record of a sheet: the number of its first fault, 0 where it has none; the place after it, and how many numbers it has.
-#[derive(Clone, Copy)]
-pub(crate) struct RecordCheck {
-    pub(crate) fault: usize,
-    pub(crate) next: usize,
-    pub(crate) count: usize,
-}
-
-// Tests the record at a place: of one that is missing the first field is.
-pub(crate) fn check_record(text: &[u8], at: usize, columns: usize) -> RecordCheck
+// Tests the record at a place, which is a line of the sheet: of one that is missing the first field is.
+pub(crate) fn check_record(
+    text: &[u8],
+    at: usize,
+    line: usize,
+    columns: usize,
+) -> Result<Record, Refusal>
     requires { (at ≤ length text.now) × (columns ≤ most_side) }
-    ensures { result ≡ record_at columns text.now at }
+    ensures { result ≡ record_at line columns text.now at }
 {
+    if text.len() <= at {
+        return Err(Refusal::Field(line, 1));
+    }
     let mut next = at;
     let mut count = 0;
-    if text.len() <= at {
-        return RecordCheck {
-            fault: 1,
-            next: at,
-            count: 0,
-        };
-    }
-    let mut i = 0;
-    while i < columns {
-        let cell = cell_at(text, next);
+    for i in 0..columns {
         let number = i + 1;
-        let fault = field_fault(number, columns - number, cell.sound, cell.more);
-        if fault != 0 {
-            return RecordCheck {
-                fault: fault,
-                next: at,
-                count: 0,
-            };
+        let Some(cell) = cell_at(text, next) else {
+            return Err(Refusal::Field(line, number));
+        };
+        if !goes_on(cell.more, columns - number) {
+            return Err(Refusal::Field(line, number + 1));
         }
         next = cell.next;
         count += cell.count;
-        i += 1;
     }
-    RecordCheck {
-        fault: 0,
-        next: next,
-        count: count,
-    }
+    Ok(Record { next, count })
 }
 
-// The field at a place, tested.
-fn cell_at(text: &[u8], at: usize) -> Cell
+// The field at a place, where it has a list.
+fn cell_at(text: &[u8], at: usize) -> Option<Cell>
     requires { at ≤ length text.now }
     ensures { result ≡ cell_at text.now at }
 {
-    let f = field_at(text, at);
-    if !f.sound {
-        return Cell {
-            sound: false,
-            more: f.more,
-            next: f.next,
-            count: 0,
-        };
-    }
-    let list = count_between(text, f.from, f.to);
-    Cell {
-        sound: list.sound,
-        more: f.more,
-        next: f.next,
-        count: list.count,
-    }
-}
-
-// Counts the numbers between two places.
-fn count_between(text: &[u8], from: usize, to: usize) -> ListCount
-    requires { (from ≤ to) × (to ≤ length text.now) }
-    ensures { result ≡ list_count (take (to - from) (drop from text.now)) }
-{
-    count_numbers(&text[from..to])
+    let field = field_at(text, at)?;
+    let count = count_numbers(field.raw(text))?;
+    Some(Cell {
+        more: field.more,
+        next: field.next,
+        count,
+    })
 }

@@ -10,21 +10,22 @@ use Rattle.sheet_fields.specs.Fields.{EndFound, FieldFound, field_of, bare_field
 use Rattle.sheet_fields.specs.Answers.{places, field_answer}
 use Rattle.sheet_fields.specs.declared.Field.{Field}
 
+-- an answer that is there exactly where a test passes
+pub some_is : {A : Type 0} (b : Bool) (x y : A) → Some x ≡ cond b (Some y) None → (b ≡ true) × (x ≡ y)
+some_is true x y e = (refl, cc)
+some_is false x y e = absurd cc
+
+pub none_is : {A : Type 0} (b : Bool) (y : A) → None ≡ cond b (Some y) None → b ≡ false
+none_is true y e = absurd cc
+none_is false y e = refl
+
 -- a field that was answered is sound, and has these places
 pub answer_sound : (f : FieldFound) (d : Field) → Some d ≡ field_answer f → (f.sound ≡ true) × (d ≡ places f)
-answer_sound f d e = go f.sound refl
-  where
-    go : (s : Bool) → f.sound ≡ s → (f.sound ≡ true) × (d ≡ places f)
-    go true q = let k : Some d ≡ Some (places f) = e ∙ rw q in (q, cc)
-    go false q = let k : Some d ≡ None = e ∙ rw q in absurd cc
+answer_sound f d e = some_is f.sound d (places f) e
 
 -- where none was, none is sound
 pub answer_unsound : (f : FieldFound) → None ≡ field_answer f → f.sound ≡ false
-answer_unsound f e = go f.sound refl
-  where
-    go : (s : Bool) → f.sound ≡ s → f.sound ≡ false
-    go true q = let k : None ≡ Some (places f) = e ∙ rw q in absurd cc
-    go false q = q
+answer_unsound f e = none_is f.sound (places f) e
 
 -- ---- a field that is not sound takes no bytes
 

@@ -4,7 +4,7 @@
 // alone, or with the text. Nothing is copied: a field is told by its places in the caller's own text.
 #![tactic(auto)]
 
-ghost use Rattle.std.specs.Prelude.{◌≡◌, cond, ◌+◌, ◌<◌, eqb, ltb, length, drop};
+ghost use Rattle.std.specs.Prelude.{◌≡◌, cond, ◌+◌, ◌-◌, ◌<◌, ◌≤◌, eqb, ltb, length, take, drop};
 ghost use Rattle.sheet_fields.specs.Fields.{is_plain, plain_length, quoted_length, ending_of, bare_field, quoted_field, moved, field_at};
 ghost use Rattle.sheet_fields.specs.Scan.{quoted_step};
 ghost use Rattle.sheet_fields.specs.Answers.{ending_answer, field_answer, places};
@@ -32,6 +32,16 @@ pub struct Field {
     pub from: usize,
     pub to: usize,
     pub next: usize,
+}
+
+impl Field {
+    // Its bytes as they stand in the text, quotes within its quotes doubled.
+    pub fn raw<'a>(&self, text: &'a [u8]) -> &'a [u8]
+        requires { (self.now.from ≤ self.now.to) × (self.now.to ≤ length text.now) }
+        ensures { result.now ≡ take (self.now.to - self.now.from) (drop self.now.from text.now) }
+    {
+        &text[self.from..self.to]
+    }
 }
 
 // The field at a place of a text, none where it is not sound.

@@ -1,21 +1,31 @@
 -- `cells::cell_at` meets its contract: the bytes between the field's places stand for its content. Assumes nothing.
-use native.Mathlib.Omega.{arith}
-use borrow.Author.Tests.{not-true, not-false}
-use Rattle.sheet_fields.proofs.Bounds.{field_at_within}
-use Rattle.sheet_cells.proofs.Records.{cell_broken, cell_found}
+use mathlib.Core.Path.{◌≡◌, sym, ap, ◌∙◌}
+use Rattle.std.specs.Prelude.{Some, None}
+use Rattle.sheet_fields.specs.Fields.{field_at}
+use Rattle.sheet_fields.specs.Answers.{field_answer}
+use Rattle.sheet_number_lists.specs.Counts.{list_count}
+use Rattle.sheet_cells.proofs.Records.{cell_broken, bounds, cell_other, cell_found}
 use Rattle.sheet_cells.proofs.cells.cell_at.Goals as goal
 
-pub returns-then-not-f : goal.returns-then-not-f
-returns-then-not-f c = let a = c.args in
-    let f = c.field_at-f in
-    cell_broken a.text.now a.at f.result f.ensures (not-true f.result.sound c.if-not-f.true)
+pub returns-in_err-field : goal.returns-in_err-field
+returns-in_err-field c = let a = c.args in
+    let none : None ≡ field_answer (field_at a.text.now a.at) = cc c.in_err-field.was in
+    c.from_residual.ensures ∙ cell_broken a.text.now a.at none
 
-pub count_between-list-requires : goal.count_between-list-requires
-count_between-list-requires c = let a = c.args in
-    let w = field_at_within a.text.now a.at c.requires in
-    rw c.field_at-f.ensures (w.ordered, let on = w.onward in let end = w.ends in omega arith)
+pub raw-requires : goal.raw-requires
+raw-requires c = let a = c.args in
+    let some : Some c.in_ok-field.field ≡ field_answer (field_at a.text.now a.at) = cc c.in_ok-field.was in
+    bounds a.text.now a.at c.in_ok-field.field some c.requires
+
+pub returns-in_err-count : goal.returns-in_err-count
+returns-in_err-count c = let a = c.args in
+    let some : Some c.in_ok-field.field ≡ field_answer (field_at a.text.now a.at) = cc c.in_ok-field.was in
+    let none : None ≡ list_count c.raw.result.now = sym c.in_err-count.was ∙ c.count_numbers.ensures in
+    c.from_residual-in_err-count.ensures ∙ cell_other a.text.now a.at c.in_ok-field.field some (none ∙ ap list_count c.raw.ensures)
 
 pub returns : goal.returns
 returns c = let a = c.args in
-    let f = c.field_at-f in
-    cell_found a.text.now a.at f.result f.ensures c.count_between-list.result (not-false f.result.sound c.if-not-f.false) c.count_between-list.ensures
+    let f = c.in_ok-field.field in
+    let some : Some f ≡ field_answer (field_at a.text.now a.at) = cc c.in_ok-field.was in
+    let list : Some c.in_ok-count.count ≡ list_count c.raw.result.now = sym c.in_ok-count.was ∙ c.count_numbers.ensures in
+    cell_found a.text.now a.at f some c.in_ok-count.count (list ∙ ap list_count c.raw.ensures)
