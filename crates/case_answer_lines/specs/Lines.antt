@@ -1,8 +1,7 @@
 -- What the contracts cite of answer lines: a refusal, and a case that cannot be read, as text. Assumes nothing.
 use Rattle.std.specs.Prelude.{ℕ, Bool, true, false, List, [], ◌∷◌, ◌++◌}
-use Rattle.units.specs.Refusals.{values_of}
-use Rattle.units.specs.declared.Check.TheVariants.{Refused}
-use Rattle.units.specs.declared.Refusal.{Refusal}
+use Rattle.units.specs.Refusals.{number_of, values_of}
+use Rattle.units.specs.declared.refusal.Refusal.{Refusal}
 use Rattle.text_put.specs.Puts.{number_text}
 
 -- `unreadable`
@@ -21,7 +20,7 @@ spaced (n ∷ ns) = ((32 ∷ []) ++ number_text n) ++ spaced ns
 -- `refused`, the number, and the values that the rules give beside it
 unfoldable pub refused_text : Refusal → List ℕ
 unfolding spaced
-refused_text r = (refused_word ++ number_text r.number) ++ spaced (values_of (Refused r))
+refused_text r = (refused_word ++ number_text (number_of r)) ++ spaced (values_of r)
 
 -- ` kept` where the lent tables are as they were, else ` changed`
 abbrev pub tables_text : Bool → List ℕ

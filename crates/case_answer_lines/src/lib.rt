@@ -2,8 +2,7 @@
 // docs/CASES.md says what they look like; `text_put` says how a text is put.
 #![tactic(auto)]
 
-ghost use Rattle.std.specs.Prelude.{◌≡◌, ◌++◌};
-ghost use Rattle.units.specs.Refusals.{value_count};
+ghost use Rattle.std.specs.Prelude.{◌++◌};
 ghost use Rattle.text_put.specs.Puts.{Put, number_text, float_text};
 ghost use Rattle.case_answer_lines.specs.Lines.{unreadable_text, refused_text, tables_text};
 
@@ -25,30 +24,35 @@ pub fn put_value(out: &mut [u8], at: usize, sign: &[u8], value: usize) -> usize
     put_number(out, next, value as u64)
 }
 
-// How many values stand beside a number: those of the rules' table, and 19, which is a sheet's.
-fn value_count(number: u32) -> usize
-    ensures { result ≡ value_count number }
-{
-    let counts: [usize; 20] = [0, 0, 1, 1, 1, 0, 1, 1, 0, 1, 0, 2, 0, 0, 1, 1, 1, 0, 1, 2];
-    let place = number as usize;
-    if place < 20 { counts[place] } else { 0 }
-}
-
 // `refused`, the number, and its values.
 pub fn refused(out: &mut [u8], refusal: Refusal) -> usize
     ensures { Put out.old 0 (refused_text refusal) result out.new }
 {
-    let number = refusal.number;
-    let at = put_value(out, 0, b"refused ", number as usize);
-    let values = value_count(number);
-    if values == 0 {
-        return at;
+    let at = put_value(out, 0, b"refused ", refusal.number() as usize);
+    match refusal {
+        Refusal::Letter(first, second) | Refusal::Field(first, second) => {
+            let next = put_value(out, at, b" ", first);
+            put_value(out, next, b" ", second)
+        }
+        Refusal::Glue(value)
+        | Refusal::Energy(value)
+        | Refusal::Seed(value)
+        | Refusal::Strand(value)
+        | Refusal::NoLegalStrand(value)
+        | Refusal::NoRoom(value)
+        | Refusal::LoopLength(value)
+        | Refusal::TooManyBases(value)
+        | Refusal::Starred(value)
+        | Refusal::UnknownSeed(value) => put_value(out, at, b" ", value),
+        Refusal::Size
+        | Refusal::Shape
+        | Refusal::Tile
+        | Refusal::TooManyRows
+        | Refusal::BadSum
+        | Refusal::TooFewLetters
+        | Refusal::SequenceLength
+        | Refusal::Unreadable => at,
     }
-    let next = put_value(out, at, b" ", refusal.first);
-    if values == 1 {
-        return next;
-    }
-    put_value(out, next, b" ", refusal.second)
 }
 
 // A refusal, and whether the lent tables are as they were.

@@ -5,7 +5,7 @@ ghost use Rattle.text_put.specs.Puts.{Put};
 ghost use Rattle.case_replies.specs.Replies.{energy_text};
 
 use case_answer_lines::{put_float, put_text, refused};
-use units::EnergyAnswer;
+use units::Refusal;
 
 // How far the answer goes that was put into a lent text from its start, or that the line's call is another library's.
 #[derive(Clone, Copy)]
@@ -15,12 +15,12 @@ pub enum Reply {
 }
 
 // `energy` and the float, or a refusal.
-pub fn put_energy(out: &mut [u8], answer: EnergyAnswer) -> usize
+pub fn put_energy(out: &mut [u8], answer: Result<f64, Refusal>) -> usize
     ensures { Put out.old 0 (energy_text answer) result out.new }
 {
     match answer {
-        EnergyAnswer::Refused(r) => refused(out, r),
-        EnergyAnswer::Energy(x) => {
+        Err(refusal) => refused(out, refusal),
+        Ok(x) => {
             let word = put_text(out, 0, b"energy ");
             put_float(out, word, x)
         }

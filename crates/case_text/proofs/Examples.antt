@@ -4,7 +4,6 @@ use mathlib.Core.Bool.{true, false}
 use mathlib.Core.List.{List, [], ◌∷◌}
 use mathlib.Core.Path.{◌≡◌, refl}
 use Rattle.text_search.specs.Search.{index_after, index_of}
-use Rattle.text_entries.specs.Entries.{same_bytes}
 use Rattle.case_text.specs.Places.{longer, parts}
 use Rattle.case_text.specs.Fields.{call_name, rest, words, has_key, value_in, any_field, first_field}
 
@@ -18,13 +17,13 @@ unfolding line index_after index_of
 its_name = refl
 
 first_counts : first_field (107 ∷ []) (words line) ≡ 49 ∷ []
-unfolding line index_after index_of longer parts same_bytes rest words has_key value_in first_field
+unfolding line index_after index_of longer parts rest words has_key value_in first_field
 first_counts = refl
 
 empty_value : any_field (106 ∷ []) (words line) ≡ true
-unfolding line index_after index_of longer parts same_bytes rest words has_key any_field
+unfolding line index_after index_of longer parts rest words has_key any_field
 empty_value = refl
 
 no_field : any_field (107 ∷ 107 ∷ []) (words line) ≡ false
-unfolding line index_after index_of longer parts same_bytes rest words has_key any_field
+unfolding line index_after index_of longer parts rest words has_key any_field
 no_field = refl

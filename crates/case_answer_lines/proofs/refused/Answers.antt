@@ -1,17 +1,15 @@
--- `case_answer_lines::refused` meets its contract: as many values are put after the number as its row has. Assumes nothing.
+-- `case_answer_lines::refused` meets its contract: the values of the variant are put after the number. Assumes nothing.
+use Rattle.std.proofs.Common.{rules}
 use Rattle.text_put.proofs.Putting.{put_as, then_put}
-use Rattle.case_answer_lines.proofs.Refusing.{no_values, one_value, both_values}
+use Rattle.case_answer_lines.proofs.Refusing.{no_values, one_value, two_values}
 use Rattle.case_answer_lines.proofs.refused.Goals as goal
 
-pub returns-then-values-eq0 : goal.returns-then-values-eq0
-returns-then-values-eq0 c = let r = c.args.refusal in
-    put_as (no_values r c.value_count-values.result c.value_count-values.ensures c.if-values-eq0.true) c.put_value-at.ensures
+pub returns-in-Size : goal.returns-in-Size
+returns-in-Size c = put_as (no_values c.args.refusal _ c.number.ensures (search rules)) c.put_value-at.ensures
 
-pub returns-then-values-eq1 : goal.returns-then-values-eq1
-returns-then-values-eq1 c = let r = c.args.refusal in
-    put_as (one_value r c.value_count-values.result c.value_count-values.ensures c.if-values-eq1.true) (then_put c.put_value-at.ensures c.put_value-next.ensures)
+pub returns-in-Glue : goal.returns-in-Glue
+returns-in-Glue c = put_as (one_value c.args.refusal _ c.number.ensures _ (search rules)) (then_put c.put_value-at.ensures c.put_value.ensures)
 
-pub returns : goal.returns
-returns c = let r = c.args.refusal in
-    put_as (both_values r c.value_count-values.result c.value_count-values.ensures c.if-values-eq0.false c.if-values-eq1.false)
-    (then_put c.put_value-at.ensures (then_put c.put_value-next.ensures c.put_value.ensures))
+pub returns-in-Letter : goal.returns-in-Letter
+returns-in-Letter c = put_as (two_values c.args.refusal _ c.number.ensures _ _ (search rules))
+    (then_put c.put_value-at.ensures (then_put c.put_value-next.ensures c.put_value-in-Letter.ensures))
