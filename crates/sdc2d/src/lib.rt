@@ -10,6 +10,10 @@ pub use bay_glues::{
 };
 pub use bay_system::{Sizes, check_system};
 pub use name_energy_keys::energy_keys;
+pub use name_key_values::KeyValues;
+pub use name_keys::KeyNames;
 pub use name_registering::register;
+pub use name_seed_checks::SeedList;
 pub use name_seeds::seeds_by_name;
-pub use name_tiles::{NumberAnswer, tile_name, tile_name_refusal};
+pub use name_strands::StrandNames;
+pub use name_tiles::{tile_name, tile_name_refusal};
