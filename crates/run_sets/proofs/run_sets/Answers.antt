@@ -1,10 +1,10 @@
 -- `run_sets::run_sets` meets its contract: the sets stand in scan order at the front of their table. Assumes nothing.
 use Prim.Native.Nat.{ℕ, ◌*◌, ◌≤◌, ◌<◌}
 use mathlib.Core.Path.{◌≡◌, sym, subst}
-use mathlib.Core.List.{List, []}
+use mathlib.Core.List.{List}
 use lib.ListN.{length, take, get_or}
 use lib.Seq.{length-take-le}
-use Rattle.bay_system.specs.System.{system}
+use Rattle.bay_system.specs.System.{system_of}
 use Rattle.bay_scan_order.specs.Scan.{bay_at, window}
 use Rattle.bay_legal.proofs.Fronts.{front_fits}
 use Rattle.ledger_rows.specs.Scan.{EachHasStrand}
@@ -31,17 +31,17 @@ fill_scan-requires c = let on = c.requires.on_board in
 
 pub slice_bounds-scan-end : goal.slice_bounds-scan-end
 slice_bounds-scan-end c = let a = c.args in
-    room a.z.rows a.z.cols a.sets.now c.fill_scan.new.scan c.fill_scan.ensures
+    room a.system.now.sizes.rows a.system.now.sizes.cols a.sets.now c.fill_scan.new.scan c.fill_scan.ensures
 
 pub slice_bounds-run_scan-end : goal.slice_bounds-run_scan-end
 slice_bounds-run_scan-end c = let a = c.args in
-    sym (long a.z.rows a.z.cols a.sets.now c.fill_scan.new.scan c.fill_scan.ensures)
+    sym (long a.system.now.sizes.rows a.system.now.sizes.cols a.sets.now c.fill_scan.new.scan c.fill_scan.ensures)
 
 pub run_scan-requires : goal.run_scan-requires
 run_scan-requires c = let a = c.args in
-    let side = window a.z.rows a.z.cols in
-    let each = subst (λ (l : List ℕ). EachHasStrand (set_scan side l) (a.z.rows * a.z.cols)) (sym c.fill_scan.ensures) c.requires.each_has_strand in
-    let whole = long a.z.rows a.z.cols a.sets.now c.fill_scan.new.scan c.fill_scan.ensures in
+    let side = window a.system.now.sizes.rows a.system.now.sizes.cols in
+    let each = subst (λ (l : List ℕ). EachHasStrand (set_scan side l) (a.system.now.sizes.rows * a.system.now.sizes.cols)) (sym c.fill_scan.ensures) c.requires.each_has_strand in
+    let whole = long a.system.now.sizes.rows a.system.now.sizes.cols a.sets.now c.fill_scan.new.scan c.fill_scan.ensures in
     record {
       readable = c.requires.readable;
       readable_bays = c.requires.readable_bays;
@@ -51,7 +51,7 @@ run_scan-requires c = let a = c.args in
 
 pub returns : goal.returns
 returns c = let a = c.args in
-    let lent = system a.z a.strand_glues.now a.scaffold.now a.delta_g.now a.entropy.now a.logs.now [] in
+    let lent = system_of a.system.now in
     let after = c.run_scan.new in
     subst
     (λ (l : List ℕ). FinishedScan lent l c.run_scan.result a.layout.now after.layout a.energies.now after.energies a.notes.now after.notes)
