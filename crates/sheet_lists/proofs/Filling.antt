@@ -2,7 +2,7 @@
 use Prim.Native.Nat.{ℕ, suc, ◌+◌, ◌-◌, ◌≤◌, ◌<◌, min}
 use mathlib.Core.Bool.{true, ◌&&◌}
 use mathlib.Core.List.{List, [], ◌∷◌, ◌++◌, append_assoc}
-use mathlib.Core.Path.{◌≡◌, refl, sym, ◌∙◌}
+use mathlib.Core.Path.{◌≡◌, refl, sym, ap, ◌∙◌}
 use native.Mathlib.Nat.{sub-zero, zero-add}
 use native.Mathlib.Numerals.{add-one}
 use native.Mathlib.Omega.{arith}
@@ -12,6 +12,7 @@ use Rattle.units.proofs.Tests.{and_left, and_right}
 use Rattle.text_put.specs.Puts.{Put, written}
 use Rattle.text_put.proofs.Putting.{Ending, ending_starts, ending_goes_on, ending_ends, put_as, put_long}
 use Rattle.sheet_fields.specs.Fields.{field, raw, content, after, field_at}
+use Rattle.sheet_fields.specs.Answers.{places}
 use Rattle.sheet_fields.specs.declared.Field.{Field}
 use Rattle.sheet_fields.proofs.Bounds.{field_at_within, after_at, raw_at}
 use Rattle.sheet_number_lists.specs.NumberLists.{is_list, list_in}
@@ -21,7 +22,7 @@ use Rattle.sheet_cells.proofs.Quotes.{content_list, content_raw}
 use Rattle.sheet_cells.proofs.Counts.{count_suc}
 
 -- what the bytes between a cell's places are worth
-cell_list : (text : List ℕ) (at : ℕ) (f : Field) → f ≡ field_at text at → is_cell (drop at text) ≡ true
+cell_list : (text : List ℕ) (at : ℕ) (f : Field) → f ≡ places (field_at text at) → is_cell (drop at text) ≡ true
     → list_in (take (f.to - f.from) (drop f.from text)) ≡ list_in (content (drop at text))
 unfolding is_cell
 cell_list text at f e c =
@@ -60,7 +61,7 @@ module _ (bays : ℕ) (text old : List ℕ) where
       }
 
   module _ (offsets tiles : List ℕ) (bay next at : ℕ) (s : Filling bays text old offsets tiles bay next at) where
-    module _ (more : bay < bays) (f : Field) (e : f ≡ field_at text next) where
+    module _ (more : bay < bays) (f : Field) (e : f ≡ places (field_at text next)) where
       abbrev left : ℕ
       left = bays - (bay + 1)
 
@@ -80,13 +81,13 @@ module _ (bays : ℕ) (text old : List ℕ) where
       rest : drop f.next text ≡ after here
       rest = rw e (sym (after_at text next))
 
-      pub filling_goes_on : (r : ℕ) (tiles' : List ℕ) → Put tiles at (list_in (take (f.to - f.from) (drop f.from text))) r tiles'
+      pub filling_goes_on : (raw : List ℕ) → raw ≡ take (f.to - f.from) (drop f.from text) → (r : ℕ) (tiles' : List ℕ) → Put tiles at (list_in raw) r tiles'
           → Filling bays text old (set offsets bay at) tiles' (bay + 1) f.next r
       unfolding cells all_tiles starts
-      filling_goes_on r tiles' p =
+      filling_goes_on raw k₀ r tiles' p =
           let l = s.long in
           let is_cell_holds = and_left (is_cell here) (are_cells left (after here)) cells_here in
-          let q : Put tiles at list r tiles' = put_as (cell_list text next f e is_cell_holds) p in
+          let q : Put tiles at list r tiles' = put_as (ap list_in k₀ ∙ cell_list text next f e is_cell_holds) p in
           let fits : at + (length list + count_in left (after here)) ≤ length tiles = rw (one_more, count_suc left here) at s.room in
           let place : r ≡ at + length list = let k = q.place in omega arith in
           let same : length tiles' ≡ length tiles = put_long q in

@@ -13,16 +13,16 @@ loop-bay-init c = let a = c.args in
 pub bounds-offsets-bay : goal.bounds-offsets-bay
 bounds-offsets-bay c = let long = c.loop-bay.invariant.long in omega arith
 
-pub put_between-at-requires : goal.put_between-at-requires
-put_between-at-requires c = let w = field_at_within c.args.text.now c.loop-bay.next c.loop-bay.invariant.inside in
-    rw c.field_at-f.ensures (w.ordered, let on = w.onward in let end = w.ends in omega arith)
+pub raw-requires : goal.raw-requires
+raw-requires c = let w = field_at_within c.args.text.now c.loop-bay.next c.loop-bay.invariant.inside in
+    rw c.field_or_empty-field.ensures (w.ordered, let on = w.onward in let end = w.ends in omega arith)
 
 pub loop-bay-preserved : goal.loop-bay-preserved
 loop-bay-preserved c = let a = c.args in
     let s = c.loop-bay in
-    let f = c.field_at-f in
-    filling_goes_on a.bays a.text.now a.tiles.now s.offsets s.tiles s.bay s.next s.at s.invariant c.loop-bay-test.true f.result f.ensures c.put_between-at.result _
-    c.put_between-at.ensures
+    let f = c.field_or_empty-field in
+    filling_goes_on a.bays a.text.now a.tiles.now s.offsets s.tiles s.bay s.next s.at s.invariant c.loop-bay-test.true f.result f.ensures c.raw.result.now c.raw.ensures c.put_list-at.result _
+    c.put_list-at.ensures
 
 pub bounds-offsets-bays : goal.bounds-offsets-bays
 bounds-offsets-bays c = let long = c.loop-bay.invariant.long in omega arith
