@@ -22,7 +22,7 @@ use Rattle.run_least_layout.proofs.Passed.{filled_by}
 use Rattle.run_mfe.specs.RunBy.{SetsBy, Ready}
 
 -- a system and constraints that passed their tests
-pub ready : (s : System) (lent : ℕ) (c : Constraints) → given_verdict s lent c ≡ passes → Ready s.sizes s.strand_glues s.scaffold s.delta_g s.entropy s.logs lent
+pub ready : (s : System) (lent : ℕ) (c : Constraints) → given_verdict s lent c ≡ passes → Ready s lent
 ready s lent c p =
     let f = is_fine s lent c p in
     let sizes = f.shape.sizes in

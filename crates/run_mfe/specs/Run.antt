@@ -1,6 +1,6 @@
 -- The least-energy run as a call: what is refused of it, its answer, and what it leaves in the three lent slices. Assumes nothing.
-use Rattle.std.specs.Prelude.{ℕ, List, Float, length}
-use Rattle.units.specs.declared.EnergyAnswer.{EnergyAnswer}
+use Rattle.std.specs.Prelude.{ℕ, List, Float, Result, length}
+use Rattle.units.specs.declared.refusal.Refusal.{Refusal}
 use Rattle.units.specs.Refusals.{Verdict}
 use Rattle.bay_system.specs.System.{System}
 use Rattle.bay_lists.specs.Lists.{Constraints}
@@ -20,7 +20,7 @@ abbrev pub run_verdict : System → Constraints → (layout energies notes : ℕ
 run_verdict s c layout energies notes = verdict_by (given_verdict s layout c) s (is_legal s c) energies notes
 
 -- the least energy in kcal/mol, or the refusal
-abbrev pub mfe_answer : System → Constraints → (layout energies notes : ℕ) → EnergyAnswer
+abbrev pub mfe_answer : System → Constraints → (layout energies notes : ℕ) → Result Float Refusal
 mfe_answer s c layout energies notes = answer_by (given_verdict s layout c) s (is_legal s c) energies notes
 
 -- what the three lent slices hold afterwards

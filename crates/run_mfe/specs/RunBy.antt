@@ -1,11 +1,9 @@
 -- A least-energy run as a call, over whatever may lie on each bay: what is refused of it, its answer, and what it leaves in the three lent slices. Assumes nothing.
-use Rattle.std.specs.Prelude.{ℕ, ◌≡◌, Bool, List, Float, length, take}
+use Rattle.std.specs.Prelude.{ℕ, ◌≡◌, Bool, List, Float, Result, length, take}
 use Rattle.std.specs.Float.{binary64}
 use Rattle.std.specs.Float.Ieee.{of_bits}
-use Rattle.units.specs.declared.EnergyAnswer.{EnergyAnswer}
-use Rattle.units.specs.Answers.{energy_answer}
-use Rattle.units.specs.Refusals.{Verdict, ◌▷◌, if_passes}
-use Rattle.bay_system.specs.declared.sizes.Sizes.{Sizes}
+use Rattle.units.specs.declared.refusal.Refusal.{Refusal}
+use Rattle.units.specs.Refusals.{Verdict, ◌▷◌, if_passes, answer}
 use Rattle.bay_system.specs.System.{System, bays}
 use Rattle.bay_bonds.specs.Readable.{Readable}
 use Rattle.energy_state.specs.StateG.{energy_verdict, in_kcal}
@@ -34,8 +32,8 @@ module _ (first : Verdict) (s : System) (may : ℕ → ℕ → Bool) where
   verdict_by energies notes = early_by energies notes ▷ sum_by s may
 
   -- the least energy in kcal/mol, or the refusal
-  abbrev pub answer_by : (energies notes : ℕ) → EnergyAnswer
-  answer_by energies notes = energy_answer (verdict_by energies notes) (in_kcal (least_sum_by s may) s.sizes.kelvin)
+  abbrev pub answer_by : (energies notes : ℕ) → Result Float Refusal
+  answer_by energies notes = answer (verdict_by energies notes) (in_kcal (least_sum_by s may) s.sizes.kelvin)
 
   -- what the three lent slices hold afterwards
   abbrev pub layout_by : (energies notes : ℕ) → (old : List ℕ) → List ℕ
@@ -59,13 +57,13 @@ abbrev pub SomeSets : (n : ℕ) → (table : List ℕ) → Type 0
 SomeSets n table = (may : ℕ → ℕ → Bool) × SetsBy may n table
 
 -- tables that can be read, and a layout with a place for each bay
-pub record Ready (z : Sizes) (strand_glues scaffold : List ℕ) (delta_g entropy logs : List Float) (lent : ℕ) : Type 0 where
-  pub readable : Readable z.strands z.glues strand_glues delta_g entropy
-  pub stocked : ReadableBays z scaffold logs
-  pub board : OnBoard z.rows z.cols (bays z) lent
+pub record Ready (s : System) (lent : ℕ) : Type 0 where
+  pub readable : Readable s
+  pub stocked : ReadableBays s
+  pub board : OnBoard s.sizes.rows s.sizes.cols (bays s.sizes) lent
 
 -- what it promises, by whatever made the sets: 7, then what a run over them answers and leaves
-abbrev pub FinishedFrom : System → (table : List ℕ) → EnergyAnswer → (layout₀ layout₁ : List ℕ) → (energies₀ energies₁ : List Float) → (notes₀ notes₁ : List ℕ) → Type 0
+abbrev pub FinishedFrom : System → (table : List ℕ) → Result Float Refusal → (layout₀ layout₁ : List ℕ) → (energies₀ energies₁ : List Float) → (notes₀ notes₁ : List ℕ) → Type 0
 FinishedFrom s table r layout₀ layout₁ energies₀ energies₁ notes₀ notes₁ =
     (may : ℕ → ℕ → Bool) → SetsBy may (length s.scaffold) table
     → FinishedBy (empty_verdict s.sizes.rows s.sizes.cols (sets_to may (bays s.sizes))) s may r layout₀ layout₁ energies₀ energies₁ notes₀ notes₁
