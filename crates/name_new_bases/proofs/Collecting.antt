@@ -1,22 +1,22 @@
 -- How the bases are collected, entry by entry. Assumes nothing.
 use Prim.Native.Nat.{ℕ, suc, ◌+◌, ◌*◌, ◌-◌, ◌≤◌, ◌<◌}
 use mathlib.Core.Path.{◌≡◌, refl, ap, ap₂, sym, ◌∙◌}
-use mathlib.Core.Bool.{true, false, ◌&&◌}
+use mathlib.Core.Bool.{Bool, true, false, not, ◌&&◌, true≢false}
 use mathlib.Core.List.{List, [], ◌∷◌, ◌++◌, append_assoc}
-use native.Mathlib.Nat.{lt_of_not-le, le_of_lt}
+use native.Mathlib.Nat.{lt_of_not-le}
 use native.Mathlib.Decide.{dec_le}
 use native.Mathlib.Omega.{arith}
-use lib.Dec.{ltb, eqb}
+use lib.Dec.{eqb}
 use lib.ListN.{length, get_or, take, drop, replicate, length-append, length-replicate, get_or-append}
-use lib.Seq.{take_all, take_at, take-append-le, take-append_seam, drop-append-add, get_or_at}
-use borrow.Author.Tests.{lt-ltb, le-ltb, ltb-false}
+use lib.Seq.{take-append_seam, drop-append-add, get_or_at}
+use borrow.Author.Tests.{lt-ltb, le-ltb, eq-eqb, ne_eqb}
 use Rattle.units.specs.Limits.{most_glues, most_bases, base_numbers}
-use Rattle.units.specs.declared.Refusal.{Refusal}
-use Rattle.units.specs.declared.CountAnswer.{CountAnswer}
-use Rattle.units.specs.declared.CountAnswer.TheVariants.{Count, Refused}
-use Rattle.units.specs.Refusals.{Verdict, passes, refuses, refusal}
-use Rattle.units.specs.Answers.{count_answer}
-use Rattle.units.proofs.Verdicts.{no_fault}
+use Rattle.std.specs.Prelude.{Ok, Err, Option, is_some}
+use Rattle.text_entries.specs.InOrder.{found}
+use Rattle.text_entries.proofs.InOrder.{found_at, found_nowhere}
+use Rattle.units.specs.declared.refusal.Refusal.{Refusal}
+use Rattle.units.specs.declared.refusal.Refusal.TheVariants.{TooManyBases}
+use Rattle.units.specs.Refusals.{passes, refuses, answer}
 use Rattle.text_entries.proofs.Bounds.{entry_starts, offset_within, length_part}
 use Rattle.name_stars.specs.Stars.{base_length, base_of}
 use Rattle.name_stars.proofs.BeforeStars.{base_at_most}
@@ -24,7 +24,7 @@ use Rattle.name_base_list.proofs.Within.{all_fit}
 use Rattle.name_glues.specs.Names.{GlueNames, name_at, is_present, GluesReadable}
 use Rattle.name_base_list.specs.Bases.{Searchable}
 use Rattle.name_new_bases.specs.Bases.{bases_of, is_new, firsts_to, bases_table, count_verdict}
-use Rattle.name_new_bases.specs.Steps.{Holds, Collected}
+use Rattle.name_new_bases.specs.Steps.{base_list, Holds}
 use Rattle.name_new_bases.proofs.Firsts.{length_bases, bases_append, base_offset, base_size, brings, firsts_kept, firsts_more, firsts_below, firsts_grow}
 use Rattle.name_new_bases.proofs.Front.{find_front, fit_front}
 
@@ -32,35 +32,26 @@ use Rattle.name_new_bases.proofs.Front.{find_front, fit_front}
 pub few_pass : (es : List ℕ) → length es ≤ most_bases → count_verdict es ≡ passes
 few_pass es h = rw (le-ltb most_glues (length es * 2 + 1) (omega arith))
 
-pub many_refused : (es : List ℕ) → most_bases < length es → count_verdict es ≡ refuses 15 (get_or es most_bases 0 ∷ [])
+pub many_refused : (es : List ℕ) → most_bases < length es → count_verdict es ≡ refuses (TooManyBases (get_or es most_bases 0))
 many_refused es h = rw (lt-ltb most_glues (length es * 2 + 1) (omega arith))
 
-passed_few : (es : List ℕ) → count_verdict es ≡ passes → length es ≤ most_bases
-passed_few es e = omega (arith, ltb-false most_glues (length es * 2 + 1) (no_fault (ltb most_glues (length es * 2 + 1)) 15 (get_or es most_bases 0 ∷ []) e))
+-- more than 127 were brought where they are refused, and a refusal stays, whatever is brought later
+refused_many : (es : List ℕ) {r : Refusal} → count_verdict es ≡ refuses r → most_bases < length es
+refused_many es e = elim (dec_le (length es) most_bases) [ yes few ↦ let pass = few_pass es few in cc | no many ↦ lt_of_not-le many ]
 
--- an answer that is a count has passed, and is that count
-is_count_lem : (v : Verdict) (m : ℕ) {c : ℕ} → Count c ≡ count_answer v m → (v ≡ passes) × (c ≡ m)
-is_count_lem passes m e = (refl, cc)
-is_count_lem (refuses number values) m e = (cc, cc)
-
--- an answer that is a refusal does not go by the count
-any_count : (v : Verdict) (m o : ℕ) {q : Refusal} → count_answer v m ≡ Refused q → count_answer v o ≡ Refused q
-any_count passes m o e = cc
-any_count (refuses number values) m o e = e
-
--- so more than 127 were brought, and a refusal stays, whatever is brought later
-refused_many : (es : List ℕ) (m : ℕ) {q : Refusal} → count_answer (count_verdict es) m ≡ Refused q → most_bases < length es
-refused_many es m e = elim (dec_le (length es) most_bases) [ yes few ↦ absurd (never (ap (λ v. count_answer v m) (few_pass es few))) | no many ↦ lt_of_not-le many ]
-  where
-    never : count_answer (count_verdict es) m ≡ Count m → ⊥
-    never f = let clash : ◌≡◌ {A = ℕ} 0 1 = cc in omega arith
-
-refused_stays : (es rest : List ℕ) (m : ℕ) {q : Refusal} → count_answer (count_verdict es) m ≡ Refused q → count_verdict (es ++ rest) ≡ count_verdict es
-refused_stays es rest m e =
-    let many = refused_many es m e in
+refused_stays : (es rest : List ℕ) {r : Refusal} → count_verdict es ≡ refuses r → count_verdict (es ++ rest) ≡ count_verdict es
+refused_stays es rest e =
+    let many = refused_many es e in
     many_refused (es ++ rest) (rw (length-append es rest) (omega arith))
-    ∙ ap (λ entry. refuses 15 (entry ∷ [])) (get_or-append es rest 0 most_bases many)
+    ∙ ap (λ entry. refuses (TooManyBases entry)) (get_or-append es rest 0 most_bases many)
     ∙ sym (many_refused es many)
+
+-- what a search did not find would be the next base
+pub none_found : (answer : Bool) {count place : ℕ} {r : Option ℕ} → r ≡ found count place → is_some r ≡ not answer → place ≤ count → answer ≡ eqb place count
+none_found true {count} {place} e s w =
+    elim (dec_le count place) [ yes h ↦ sym (eq-eqb place count (omega arith)) | no h ↦ absurd (true≢false (ap is_some (found_at refl (lt_of_not-le h) ∙ sym e) ∙ s)) ]
+none_found false {count} {place} e s w =
+    elim (dec_le count place) [ yes h ↦ absurd (true≢false (sym s ∙ ap is_some (e ∙ sym (found_nowhere h)))) | no h ↦ sym (ne_eqb place count λ q. omega (arith, q, lt_of_not-le h)) ]
 
 -- two numbers behind k others, in a list of zeros from there on
 put_behind : (front : List ℕ) (a b k m : ℕ) → length front ≡ k
@@ -108,13 +99,16 @@ module _ (n : GlueNames) where
       rw (h.list, h.counted) (table_searchable (firsts_to n k) r (omega (arith, h.few, h.counted)) λ j m. omega (arith, firsts_below n k j m))
 
   -- bases that are held are answered
-  pub collects : (k c : ℕ) (bases : List ℕ) → Holds n k bases c → Collected n k bases (Count c)
-  collects k c bases h =
-      let es = firsts_to n k in
-      record {
-        answered = ap Count h.counted ∙ sym (ap (λ v. count_answer v (length es)) (few_pass es (omega (arith, h.few, h.counted))));
-        list = h.list ∙ sym (ap (bases_table n) (take_all most_bases es (omega (arith, h.few, h.counted))));
-      }
+  pub collects : (k : ℕ) {c : ℕ} {bases : List ℕ} → Holds n k bases c → Ok (record { numbers = bases; count = c }) ≡ answer (count_verdict (firsts_to n k)) (base_list n (firsts_to n k))
+  collects k h = rw (few_pass (firsts_to n k) (omega (arith, h.few, h.counted)), h.counted, h.list)
+
+  -- and so is a refusal, whatever comes later
+  pub stops : (i k : ℕ) {r : Refusal} → count_verdict (firsts_to n i) ≡ refuses r → i ≤ k → Err r ≡ answer (count_verdict (firsts_to n k)) (base_list n (firsts_to n k))
+  stops i k e l =
+      let grow = firsts_grow n i (k - i) in
+      let all : i + (k - i) ≡ k = omega arith in
+      let later = sym (ap (firsts_to n) all) ∙ grow.1 in
+      rw (ap count_verdict later ∙ refused_stays (firsts_to n i) grow.0 e ∙ e)
 
   -- one entry more in the table
   grown : (es : List ℕ) (i : ℕ) → length es < most_bases
@@ -131,10 +125,10 @@ module _ (n : GlueNames) where
       ∙ ap (λ front. front ++ replicate m 0) (sym (bases_append n es (i ∷ [])))
 
   module _ (i c : ℕ) (bases : List ℕ) (h : Holds n i bases c) where
-    pub kept : is_new n bases c i ≡ false → Collected n (i + 1) bases (Count c)
+    pub kept : is_new n bases c i ≡ false → Holds n (i + 1) bases c
     kept e =
         let same = firsts_kept n i (sym (same_new i c bases h) ∙ e) in
-        collects (i + 1) c bases (record { few = h.few; counted = h.counted ∙ sym (ap length same); list = h.list ∙ sym (ap (bases_table n) same) })
+        record { few = h.few; counted = h.counted ∙ sym (ap length same); list = h.list ∙ sym (ap (bases_table n) same) }
 
     -- there is room for one base more
     pub room : (c ≡ most_bases → ⊥) → c + c + 2 ≤ length bases
@@ -143,44 +137,21 @@ module _ (n : GlueNames) where
         let zeros = base_numbers - length es * 2 in
         rw (h.list, length-append (bases_of n es) (replicate zeros 0), length-replicate {A = ℕ} zeros 0) (omega (arith, length_bases n es, h.few, h.counted))
 
-    pub full : is_new n bases c i ≡ true → c ≡ most_bases → Collected n (i + 1) bases (Refused (refusal 15 (i ∷ [])))
+    pub full : is_new n bases c i ≡ true → c ≡ most_bases → count_verdict (firsts_to n (i + 1)) ≡ refuses (TooManyBases i)
     full e l =
         let es = firsts_to n i in
         let one = firsts_more n i (sym (same_new i c bases h) ∙ e) in
         let size : length es ≡ most_bases = sym h.counted ∙ l in
-        let refused : count_verdict (firsts_to n (i + 1)) ≡ refuses 15 (i ∷ []) =
-        rw one (many_refused (es ++ (i ∷ [])) (rw (length-append es (i ∷ [])) (omega arith)) ∙ ap (λ entry. refuses 15 (entry ∷ [])) (get_or_at es i [] 0 most_bases size)) in
-        record { answered = rw refused; list = h.list ∙ sym (ap (λ entries. bases_table n (take most_bases entries)) one ∙ ap (bases_table n) (take_at es (i ∷ []) most_bases size)) }
+        rw one (many_refused (es ++ (i ∷ [])) (rw (length-append es (i ∷ [])) (omega arith)) ∙ ap (λ entry. refuses (TooManyBases entry)) (get_or_at es i [] 0 most_bases size))
 
-    pub more : is_new n bases c i ≡ true → (c ≡ most_bases → ⊥) → {new : List ℕ} (offset size : ℕ) → offset ≡ get_or n.offsets i 0 → size ≡ base_length (name_at n i)
-        → new ≡ take (c + c) bases ++ (offset ∷ size ∷ drop (c + c + 2) bases) → Collected n (i + 1) new (Count (c + 1))
-    more e l offset size o s w =
+    pub more : is_new n bases c i ≡ true → (c ≡ most_bases → ⊥) → {new : List ℕ} {count : ℕ} (offset size : ℕ) → offset ≡ get_or n.offsets i 0 → size ≡ base_length (name_at n i)
+        → new ≡ take (c + c) bases ++ (offset ∷ size ∷ drop (c + c + 2) bases) → count ≡ c + 1 → Holds n (i + 1) new count
+    more e l offset size o s w counted =
         let es = firsts_to n i in
         let one = firsts_more n i (sym (same_new i c bases h) ∙ e) in
-        let below : c < most_bases = omega (arith, h.few) in
         let written = rw (o, s, h.list, h.counted) at w in
-        collects (i + 1) (c + 1) _
-        (record {
-          few = omega arith;
+        record {
+          few = omega (arith, h.few);
           counted = rw (one, length-append es (i ∷ [])) (omega (arith, h.counted));
-          list = written ∙ grown es i (omega (arith, h.counted)) ∙ sym (ap (bases_table n) one);
-        })
-
-  pub goes_on : (k : ℕ) {bases : List ℕ} {r : CountAnswer} {c : ℕ} → Collected n k bases r → r ≡ Count c → Holds n k bases c
-  goes_on k d e =
-      let es = firsts_to n k in
-      let both = is_count_lem (count_verdict es) (length es) (sym e ∙ d.answered) in
-      record { few = omega (arith, both.1, passed_few es both.0); counted = both.1; list = d.list ∙ ap (bases_table n) (take_all most_bases es (passed_few es both.0)) }
-
-  pub stops : (i k : ℕ) {bases : List ℕ} {r : CountAnswer} {q : Refusal} → Collected n i bases r → r ≡ Refused q → i ≤ k → Collected n k bases r
-  stops i k d e l =
-      let es = firsts_to n i in
-      let grow = firsts_grow n i (k - i) in
-      let all : i + (k - i) ≡ k = omega arith in
-      let later = sym (ap (firsts_to n) all) ∙ grow.1 in
-      let before = sym d.answered ∙ e in
-      let same = ap count_verdict later ∙ refused_stays es grow.0 (length es) before in
-      record {
-        answered = e ∙ sym (ap (λ v. count_answer v (length (firsts_to n k))) same ∙ any_count (count_verdict es) (length es) (length (firsts_to n k)) before);
-        list = d.list ∙ sym (ap (λ entries. bases_table n (take most_bases entries)) later ∙ ap (bases_table n) (take-append-le most_bases es grow.0 (le_of_lt (refused_many es (length es) before))));
-      }
+          list = written ∙ grown es i (omega (arith, h.few, h.counted)) ∙ sym (ap (bases_table n) one);
+        }

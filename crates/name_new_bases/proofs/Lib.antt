@@ -1,4 +1,3 @@
-pub mod Stores
 pub mod Firsts
 pub mod Front
 pub mod Collecting

@@ -1,6 +1,7 @@
 -- Which entries bring a new base, the bases that they bring, and when they are too many. Assumes nothing.
 use Rattle.std.specs.Prelude.{ℕ, zero, suc, ◌+◌, ◌*◌, ◌-◌, Bool, cond, ◌&&◌, List, [], ◌∷◌, ◌++◌, eqb, ltb, length, get_or, replicate}
 use Rattle.units.specs.Limits.{most_glues, most_bases, base_numbers}
+use Rattle.units.specs.declared.refusal.Refusal.TheVariants.{TooManyBases}
 use Rattle.units.specs.Refusals.{Verdict, refuse_if}
 use Rattle.name_stars.specs.Stars.{base_length}
 use Rattle.name_glues.specs.Names.{GlueNames, name_at, is_present}
@@ -26,4 +27,4 @@ bases_table n entries = bases_of n entries ++ replicate (base_numbers - length e
 
 -- 15, with the entry: base j has the glues 2j + 1 and 2j + 2, so that the 128th base would raise the count of glues above 256
 abbrev pub count_verdict : (firsts : List ℕ) → Verdict
-count_verdict firsts = refuse_if (ltb most_glues (length firsts * 2 + 1)) 15 (get_or firsts most_bases 0 ∷ [])
+count_verdict firsts = refuse_if (ltb most_glues (length firsts * 2 + 1)) (TooManyBases (get_or firsts most_bases 0))

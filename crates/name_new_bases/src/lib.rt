@@ -1,94 +1,84 @@
 // The bases of a registering: which bases the entries bring, and whether they are too many.
 #![tactic(auto)]
 
-ghost use Rattle.std.specs.Prelude.{◌≡◌, ◌+◌, ◌≤◌, ◌<◌, ◌∷◌, ◌++◌, length, take, drop, replicate};
-ghost use Rattle.units.specs.Limits.{base_numbers};
-ghost use Rattle.name_glues.specs.Names.{glue_names, GluesReadable};
-ghost use Rattle.name_base_list.specs.Bases.{Searchable};
-ghost use Rattle.name_new_bases.specs.Bases.{is_new};
-ghost use Rattle.name_new_bases.specs.Steps.{Holds, Collected};
+ghost use Rattle.std.specs.Prelude.{◌≡◌, ◌+◌, ◌≤◌, ◌<◌, ◌∷◌, ◌++◌, length, take, drop, OnOk, IfErr};
+ghost use Rattle.units.specs.Refusals.{answer, refuses};
+ghost use Rattle.name_glues.specs.Names.{names_of};
+ghost use Rattle.name_new_bases.specs.Bases.{is_new, firsts_to, count_verdict};
+ghost use Rattle.name_new_bases.specs.Steps.{base_list, Holds};
 
-use name_base_list::base_number;
+use name_glues::{GlueNames, Registry};
 use name_stars::base_length;
-use text_entries::entry;
-use units::{CountAnswer, MOST_BASES, Refusal};
+use units::{BASE_NUMBERS, MOST_BASES, Refusal};
+
+// The bases that names bring, as offset and length of each; the rest is 0.
+#[derive(Clone, Copy)]
+pub struct BaseList {
+    pub numbers: [usize; BASE_NUMBERS],
+    pub count: usize,
+}
+
+impl BaseList {
+    // Writes a base's offset and length behind the others.
+    fn push(&mut self, offset: usize, size: usize)
+        requires { self.old.count + self.old.count + 2 ≤ length self.old.numbers }
+        ensures count { self.new.count ≡ self.old.count + 1 }
+        ensures numbers { let at = self.old.count + self.old.count in
+            self.new.numbers ≡ take at self.old.numbers ++ (offset ∷ size ∷ drop (at + 2) self.old.numbers) }
+    {
+        let at = self.count + self.count;
+        self.numbers[at] = offset;
+        self.numbers[at + 1] = size;
+        self.count += 1;
+    }
+
+    // Looks entry i up, and adds its base where it is new. Refusal 15 with the entry where it is one too many.
+    fn get_or_generate(&mut self, names: &GlueNames<'_>, i: usize) -> Result<(), Refusal>
+        requires i_in_bounds { i < length names.now.names.present.now }
+        requires holds { Holds (names_of names.now.names) i self.old.numbers self.old.count }
+        ensures ok { OnOk result (Holds (names_of names.now.names) (i + 1) self.new.numbers self.new.count) }
+        ensures err { IfErr result (λ r. count_verdict (firsts_to (names_of names.now.names) (i + 1)) ≡ refuses r) }
+    {
+        let registry = Registry {
+            names: *names,
+            bases: &self.numbers,
+            count: self.count,
+        };
+        if !is_new(&registry, i) {
+            return Ok(());
+        }
+        if self.count == MOST_BASES {
+            return Err(Refusal::TooManyBases(i));
+        }
+        self.push(names.names.offsets[i], base_length(names.names.entry(i)));
+        Ok(())
+    }
+}
 
 // Whether entry i has a name whose base is not in the list.
-fn is_new(
-    text: &[u8],
-    offsets: &[usize],
-    present: &[u8],
-    bases: &[usize],
-    count: usize,
-    i: usize,
-) -> bool
-    requires glues_readable { GluesReadable (glue_names text.now offsets.now present.now) }
-    requires searchable { Searchable text.now bases.now count }
-    requires i_in_bounds { i < length present.now }
-    ensures { let n = glue_names text.now offsets.now present.now in
-        result ≡ is_new n bases.now count i }
+fn is_new(registry: &Registry<'_>, i: usize) -> bool
+    requires { i < length registry.now.names.names.present.now }
+    ensures { let n = names_of registry.now.names.names in
+        result ≡ is_new n registry.now.bases.now registry.now.count i }
 {
-    present[i] == 1 && base_number(text, bases, count, entry(text, offsets, i)) == count
+    match registry.names.name(i) {
+        Some(name) => registry.list().number(name).is_none(),
+        None => false,
+    }
 }
 
-// Writes a base's offset and length behind `count` others.
-fn put_base(bases: &mut [usize], count: usize, offset: usize, size: usize)
-    requires { count + count + 2 ≤ length bases.old }
-    ensures { bases.new ≡ take (count + count) bases.old ++ (offset ∷ size ∷ drop (count + count + 2) bases.old) }
+// The bases that the entries bring; refusal 15 where they are too many.
+pub fn collect(names: &GlueNames<'_>) -> Result<BaseList, Refusal>
+    ensures { let n = names_of names.now.names in
+        let firsts = firsts_to n (length names.now.names.present.now) in
+        result ≡ answer (count_verdict firsts) (base_list n firsts) }
 {
-    bases[count + count] = offset;
-    bases[count + count + 1] = size;
-}
-
-// The count of bases after entry i, which is looked up; its base is written behind the others where it is new.
-fn get_or_generate(
-    text: &[u8],
-    offsets: &[usize],
-    present: &[u8],
-    bases: &mut [usize],
-    count: usize,
-    i: usize,
-) -> CountAnswer
-    requires glues_readable { GluesReadable (glue_names text.now offsets.now present.now) }
-    requires i_in_bounds { i < length present.now }
-    requires holds { Holds (glue_names text.now offsets.now present.now) i bases.old count }
-    ensures { let n = glue_names text.now offsets.now present.now in
-        Collected n (i + 1) bases.new result }
-{
-    if !is_new(text, offsets, present, bases, count, i) {
-        return CountAnswer::Count(count);
+    let mut list = BaseList {
+        numbers: [0; BASE_NUMBERS],
+        count: 0,
+    };
+    for i in 0..names.count() {
+        list.get_or_generate(names, i)?;
     }
-    if count == MOST_BASES {
-        return CountAnswer::Refused(Refusal {
-            number: 15,
-            first: i,
-            second: 0,
-        });
-    }
-    put_base(
-        bases,
-        count,
-        offsets[i],
-        base_length(entry(text, offsets, i)),
-    );
-    CountAnswer::Count(count + 1)
-}
-
-// The count of bases that the entries bring, and the bases, written into zeros: as many as there is room for where they are too many.
-pub fn collect(text: &[u8], offsets: &[usize], present: &[u8], bases: &mut [usize]) -> CountAnswer
-    requires glues_readable { GluesReadable (glue_names text.now offsets.now present.now) }
-    requires bases_value { bases.old ≡ replicate base_numbers 0 }
-    ensures { let n = glue_names text.now offsets.now present.now in
-        Collected n (length present.now) bases.new result }
-{
-    let mut count = 0;
-    let mut i = 0;
-    while i < present.len() {
-        match get_or_generate(text, offsets, present, bases, count, i) {
-            CountAnswer::Refused(r) => return CountAnswer::Refused(r),
-            CountAnswer::Count(n) => count = n,
-        }
-        i += 1;
-    }
-    CountAnswer::Count(count)
+    Ok(list)
 }

@@ -1,6 +1,7 @@
 -- What a registering is asked, and what is refused of it before any name is registered. Assumes nothing.
-use Rattle.std.specs.Prelude.{ℕ, ◌+◌, ◌*◌, ◌-◌, ◌≤◌, ◌≡◌, Bool, not, ◌&&◌, [], eqb, length}
+use Rattle.std.specs.Prelude.{ℕ, ◌+◌, ◌*◌, ◌-◌, ◌≤◌, ◌≡◌, Bool, not, ◌&&◌, eqb, length}
 use Rattle.units.specs.Limits.{most_side, most_strands, base_numbers, from_one_to}
+use Rattle.units.specs.declared.refusal.Refusal.TheVariants.{Size, Unreadable}
 use Rattle.units.specs.Refusals.{Verdict, refuse_if, ◌▷◌}
 use Rattle.text_entries.specs.Entries.{offsets_fit, are_flags, entries_sized}
 use Rattle.name_glues.specs.Names.{GlueNames}
@@ -46,7 +47,7 @@ is_sized q =
 
 -- 1: a size is outside its range, or a slice has the wrong length
 abbrev pub request_sizes : Request → Verdict
-request_sizes q = refuse_if (not (is_sized q)) 1 []
+request_sizes q = refuse_if (not (is_sized q)) Size
 
 -- each presence byte is 0 or 1, and no offset falls or overruns the text
 abbrev pub is_readable : GlueNames → Bool
@@ -54,7 +55,7 @@ is_readable n = are_flags n.present && offsets_fit (length n.text) n.offsets
 
 -- 17: a presence byte is something else, or an offset falls or overruns
 abbrev pub request_reading : GlueNames → Verdict
-request_reading n = refuse_if (not (is_readable n)) 17 []
+request_reading n = refuse_if (not (is_readable n)) Unreadable
 
 -- 1, then 17
 abbrev pub input_verdict : Request → Verdict

@@ -3,19 +3,19 @@
 
 ghost use Rattle.std.specs.Prelude.{◌≡◌, ◌≤◌};
 ghost use Rattle.units.specs.Limits.{most_strands};
-ghost use Rattle.units.specs.Refusals.{check};
-ghost use Rattle.name_glues.specs.Names.{glue_names};
+ghost use Rattle.name_glues.specs.Names.{names_of};
 ghost use Rattle.name_register_input.specs.Input.{sizes_in_range, tables_fit, request, input_verdict};
 
-use text_entries::{are_flags, entries_sized, offsets_fit};
-use units::{BASE_NUMBERS, Check, MOST_SIDE, MOST_STRANDS, from_one_to, refused};
+use text_entries::Names;
+use units::{BASE_NUMBERS, MOST_SIDE, MOST_STRANDS, Refusal, from_one_to};
 
 // Whether rows, columns and strands are in their ranges.
 fn sizes_in_range(rows: usize, cols: usize, strands: usize) -> bool
     ensures { result ≡ sizes_in_range rows cols strands }
 {
     from_one_to(MOST_SIDE, rows)
-        & (from_one_to(MOST_SIDE, cols) & from_one_to(MOST_STRANDS, strands))
+        && from_one_to(MOST_SIDE, cols)
+        && from_one_to(MOST_STRANDS, strands)
 }
 
 // Whether the lent tables have their lengths.
@@ -23,7 +23,7 @@ fn tables_fit(glues: usize, scaffold: usize, bases: usize, strands: usize, bays:
     requires { strands ≤ most_strands }
     ensures { result ≡ tables_fit glues scaffold bases strands bays }
 {
-    (glues == strands * 5) & ((scaffold == bays) & (bases == BASE_NUMBERS))
+    glues == strands * 5 && scaffold == bays && bases == BASE_NUMBERS
 }
 
 // What is refused before registering: a size or a length, then names that cannot be read.
@@ -31,28 +31,24 @@ pub fn check_input(
     rows: usize,
     cols: usize,
     strands: usize,
-    text: &[u8],
-    offsets: &[usize],
-    present: &[u8],
+    names: &Names<'_>,
     glues: usize,
     scaffold: usize,
     bases: usize,
-) -> Check
-    ensures { let n = glue_names text.now offsets.now present.now in
-        let q = request rows cols strands n glues scaffold bases in
-        result ≡ check (input_verdict q) }
+) -> Result<(), Refusal>
+    ensures { let q = request rows cols strands (names_of names.now) glues scaffold bases in
+        result ≡ input_verdict q }
 {
     if !sizes_in_range(rows, cols, strands) {
-        return refused(1);
+        return Err(Refusal::Size);
     }
     let bays = rows * cols;
     let entries = (strands - 1) * 5 + bays;
-    let counted = entries_sized(text.len(), offsets.len(), present.len(), entries);
-    if !(counted & tables_fit(glues, scaffold, bases, strands, bays)) {
-        return refused(1);
+    if !(names.sized(entries) && tables_fit(glues, scaffold, bases, strands, bays)) {
+        return Err(Refusal::Size);
     }
-    if !(are_flags(present) & offsets_fit(offsets, text.len())) {
-        return refused(17);
+    if !names.formed() {
+        return Err(Refusal::Unreadable);
     }
-    Check::Passed
+    Ok(())
 }

@@ -1,3 +1,2 @@
 pub mod Registering
-pub mod Answered
 pub mod Unique

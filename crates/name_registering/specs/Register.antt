@@ -1,8 +1,7 @@
 -- Registering: what is refused, what is answered, and what the lent tables hold afterwards. Assumes nothing.
-use Rattle.std.specs.Prelude.{ℕ, ◌+◌, List, length}
-use Rattle.units.specs.declared.CountAnswer.{CountAnswer}
-use Rattle.units.specs.Refusals.{Verdict, ◌▷◌, if_passes}
-use Rattle.units.specs.Answers.{count_answer}
+use Rattle.std.specs.Prelude.{ℕ, ◌+◌, List, length, Result}
+use Rattle.units.specs.declared.refusal.Refusal.{Refusal}
+use Rattle.units.specs.Refusals.{Verdict, ◌▷◌, if_passes, answer}
 use Rattle.name_glues.specs.Names.{GlueNames}
 use Rattle.name_glue_tables.specs.Tables.{strand_table, scaffold_table}
 use Rattle.name_glues.specs.Starred.{stars_verdict}
@@ -22,8 +21,8 @@ abbrev pub register_verdict : Request → Verdict
 register_verdict q = input_verdict q ▷ registered_verdict q.names q.strands (bay_count q)
 
 -- the count of bases
-abbrev pub register_answer : Request → CountAnswer
-register_answer q = count_answer (register_verdict q) (length (firsts_of q.names q.strands (bay_count q)))
+abbrev pub register_answer : Request → Result ℕ Refusal
+register_answer q = answer (register_verdict q) (length (firsts_of q.names q.strands (bay_count q)))
 
 -- the tables of what is registered, each glue by the list of bases as it is answered
 abbrev pub registered_bases : GlueNames → (strands bays : ℕ) → List ℕ

@@ -1,9 +1,9 @@
 -- `name_new_bases::is_new` meets its contract. Assumes nothing.
-use borrow.Author.Tests.{eq-eqb, ne_eqb}
+use Rattle.name_new_bases.proofs.Collecting.{none_found}
 use Rattle.name_new_bases.proofs.is_new.Goals as goal
 
-pub returns-then-present-i-eq1 : goal.returns-then-present-i-eq1
-returns-then-present-i-eq1 c = rw (eq-eqb _ _ c.if-present-i-eq1.true, ← c.entry.ensures.bytes, ← c.base_number.ensures.0)
-
-pub returns-else-present-i-eq1 : goal.returns-else-present-i-eq1
-returns-else-present-i-eq1 c = rw (ne_eqb _ _ c.if-present-i-eq1.false)
+pub returns-in-Some : goal.returns-in-Some
+returns-in-Some c =
+    let place = rw (c.list.ensures.text, c.list.ensures.numbers, c.list.ensures.count) at c.number.ensures.place in
+    let within = rw (c.list.ensures.text, c.list.ensures.numbers, c.list.ensures.count) at c.number.ensures.within in
+    rw (c.in-Some.ensures.present.0, ← c.in-Some.ensures.present.1) (none_found _ place c.is_none.ensures within)
