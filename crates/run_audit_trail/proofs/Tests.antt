@@ -2,12 +2,15 @@
 use Prim.Native.Nat.{ℕ, ◌+◌, ◌/◌, ◌≤◌}
 use mathlib.Core.Path.{◌≡◌, refl, sym, ◌∙◌, ap, ap₂}
 use mathlib.Core.Bool.{Bool, true, false, not, ◌&&◌, ◌||◌}
-use mathlib.Core.List.{List, [], ◌∷◌}
+use mathlib.Core.List.{List}
 use native.Mathlib.Omega.{arith}
 use lib.Dec.{eqb, ltb}
 use lib.ListN.{length, drop}
 use borrow.Author.Tests.{eqb-true, eqb-false, eq-eqb, ltb-false, le-ltb, not-false}
-use Rattle.units.specs.Refusals.{Verdict, passes, refuses, refuse_if, ◌▷◌, number_in}
+use Rattle.std.specs.Prelude.{Ok, Err}
+use Rattle.units.specs.declared.refusal.Refusal.{Refusal}
+use Rattle.units.specs.declared.refusal.Refusal.TheVariants.{Size, Glue, Energy, Seed, Shape, NoLegalStrand, TooManyRows, NoRoom, BadSum}
+use Rattle.units.specs.Refusals.{Verdict, passes, refuse_if, ◌▷◌, number_of}
 use Rattle.units.specs.Limits.{most_rows}
 use Rattle.units.specs.Finite.{finite}
 use Rattle.units.specs.Places.{first_failing, place_verdict}
@@ -29,8 +32,8 @@ use Rattle.run_audit_trail.specs.AuditTrail.{EarlierTestsPass}
 use Rattle.run_audit_trail.proofs.Choices.{begins_at}
 
 both_pass : (v w : Verdict) → v ≡ passes → w ≡ passes → v ▷ w ≡ passes
-both_pass passes w e f = f
-both_pass (refuses number values) w e f = e
+both_pass (Ok _) w e f = f
+both_pass (Err r) w e f = e
 
 or_none : (a b : Bool) → (a || b) ≡ false → (a ≡ false) × (b ≡ false)
 or_none true b e = (e, cc)
@@ -43,14 +46,14 @@ room_passes need energies leaving few e l = rw (le-ltb most_rows need few, le-lt
 module _ (need energies leaving : ℕ) (e : room_verdict need energies leaving ≡ passes) where
   passed_8 : need ≤ most_rows
   passed_8 =
-      let short = refuse_if (ltb energies need || ltb leaving need) 9 (need ∷ []) in
-      ltb-false most_rows need (no_fault (ltb most_rows need) 8 [] (first_passes (refuse_if (ltb most_rows need) 8 []) short e))
+      let short = refuse_if (ltb energies need || ltb leaving need) (NoRoom need) in
+      ltb-false most_rows need (no_fault (ltb most_rows need) TooManyRows (first_passes (refuse_if (ltb most_rows need) TooManyRows) short e))
 
   passed_9 : (need ≤ energies) × (need ≤ leaving)
   passed_9 =
-      let short = refuse_if (ltb energies need || ltb leaving need) 9 (need ∷ []) in
+      let short = refuse_if (ltb energies need || ltb leaving need) (NoRoom need) in
       let both = or_none (ltb energies need) (ltb leaving need)
-      (no_fault (ltb energies need || ltb leaving need) 9 (need ∷ []) (rest_passes (refuse_if (ltb most_rows need) 8 []) short e)) in
+      (no_fault (ltb energies need || ltb leaving need) (NoRoom need) (rest_passes (refuse_if (ltb most_rows need) TooManyRows) short e)) in
       (ltb-false energies need both.0, ltb-false leaving need both.1)
 
 module _ (s : System) (c : Constraints) (layout energies leaving : ℕ) where
@@ -71,7 +74,7 @@ module _ (s : System) (c : Constraints) (layout energies leaving : ℕ) where
   passes_early t =
       let need = needs t.system in
       let shaped : shape ≡ passes =
-      ap₂ (λ (a b : Bool). refuse_if (not (a && b)) 5 []) (eq-eqb layout (bays s.sizes) t.layout_fits) t.offsets_shaped_holds in
+      ap₂ (λ (a b : Bool). refuse_if (not (a && b)) Shape) (eq-eqb layout (bays s.sizes) t.layout_fits) t.offsets_shaped_holds in
       let fits : room ≡ passes =
       ap (λ (r : ℕ). room_verdict r energies leaving) need ∙ room_passes (needed s c) energies leaving t.few_rows t.energies_fit t.leaving_fits in
       both_pass (given_verdict s layout c) (empty ▷ room) (both_pass (system_verdict s) shape t.system shaped)
@@ -83,7 +86,7 @@ module _ (s : System) (c : Constraints) (layout energies leaving : ℕ) where
       let system = first_passes (system_verdict s) shape given in
       let shaped : (eqb layout (bays s.sizes) && offsets_shaped (bays s.sizes) c) ≡ true =
       not-false (eqb layout (bays s.sizes) && offsets_shaped (bays s.sizes) c)
-      (no_fault (not (eqb layout (bays s.sizes) && offsets_shaped (bays s.sizes) c)) 5 [] (rest_passes (system_verdict s) shape given)) in
+      (no_fault (not (eqb layout (bays s.sizes) && offsets_shaped (bays s.sizes) c)) Shape (rest_passes (system_verdict s) shape given)) in
       let last = rest_passes (given_verdict s layout c) (empty ▷ room) e in
       let fits : room_verdict (needed s c) energies leaving ≡ passes =
       ap (λ (r : ℕ). room_verdict r energies leaving) (sym (needs system)) ∙ rest_passes empty room last in
@@ -100,21 +103,22 @@ module _ (s : System) (c : Constraints) (layout energies leaving : ℕ) where
 
 -- ---- none of these tests gives 10
 pub record NotTen (v : Verdict) : Type 0 where
-  pub other : number_in v ≡ 10 → ⊥
+  pub other : v ≡ Err BadSum → ⊥
 
-not_if : (b : Bool) (number : ℕ) (values : List ℕ) → eqb number 10 ≡ false → NotTen (refuse_if b number values)
-not_if true number values no-ten = record { other = eqb-false number 10 no-ten }
-not_if false number values no-ten = record { other = λ e. omega (arith, e) }
+not_if : (b : Bool) (r : Refusal) → eqb (number_of r) 10 ≡ false → NotTen (refuse_if b r)
+not_if true r no-ten = record { other = λ e. let same : r ≡ BadSum = cc in eqb-false (number_of r) 10 no-ten (ap number_of same) }
+not_if false r no-ten = record { other = λ e. cc }
 
 not_then : {v w : Verdict} → NotTen v → NotTen w → NotTen (v ▷ w)
 not_then {v} {w} p q = by v p
   where
     by : (v : Verdict) → NotTen v → NotTen (v ▷ w)
-    by passes first = q
-    by (refuses number values) first = first
+    by (Ok _) first = q
+    by (Err r) first = first
 
-not_place : {A : Type 0} (number from : ℕ) (test : A → Bool) (xs : List A) → eqb number 10 ≡ false → NotTen (place_verdict number from test xs)
-not_place number from test xs no-ten = not_if (ltb (first_failing test xs) (length xs)) number ((from + first_failing test xs) ∷ []) no-ten
+not_place : {A : Type 0} (refusal : ℕ → Refusal) (from : ℕ) (test : A → Bool) (xs : List A) → eqb (number_of (refusal (from + first_failing test xs))) 10 ≡ false
+    → NotTen (place_verdict refusal from test xs)
+not_place refusal from test xs no-ten = not_if (ltb (first_failing test xs) (length xs)) (refusal (from + first_failing test xs)) no-ten
 
 pub early_is_not_ten : (s : System) (c : Constraints) (layout energies leaving : ℕ) → NotTen (early_verdict s c layout energies leaving)
 early_is_not_ten s c layout energies leaving =
@@ -128,10 +132,10 @@ early_is_not_ten s c layout energies leaving =
     let need = run_need s c in
     not_then
     (not_then
-    (not_then (not_if (not (sizes_fit s.sizes && lengths_fit s)) 1 [] refl)
-    (not_then (not_then (not_place 2 0 below g refl) (not_place 2 (length g) below s.scaffold refl))
-    (not_then (not_then (not_place 3 0 finite d refl) (not_then (not_place 3 (length d) finite x refl) (not_place 3 (length d + length x + 1) is_log (drop 1 s.logs) refl)))
-    (not_if (ltb seed (length s.seeds / 3)) 4 (seed ∷ []) refl))))
-    (not_if (not fits) 5 [] refl))
-    (not_then (not_if (ltb bay (bays s.sizes)) 7 (bay_at s.sizes.rows s.sizes.cols bay ∷ []) refl)
-    (not_then (not_if (ltb most_rows need) 8 [] refl) (not_if (ltb energies need || ltb leaving need) 9 (need ∷ []) refl)))
+    (not_then (not_if (not (sizes_fit s.sizes && lengths_fit s)) Size refl)
+    (not_then (not_then (not_place Glue 0 below g refl) (not_place Glue (length g) below s.scaffold refl))
+    (not_then (not_then (not_place Energy 0 finite d refl) (not_then (not_place Energy (length d) finite x refl) (not_place Energy (length d + length x + 1) is_log (drop 1 s.logs) refl)))
+    (not_if (ltb seed (length s.seeds / 3)) (Seed seed) refl))))
+    (not_if (not fits) Shape refl))
+    (not_then (not_if (ltb bay (bays s.sizes)) (NoLegalStrand (bay_at s.sizes.rows s.sizes.cols bay)) refl)
+    (not_then (not_if (ltb most_rows need) TooManyRows refl) (not_if (ltb energies need || ltb leaving need) (NoRoom need) refl)))

@@ -2,7 +2,7 @@
 use Prim.Native.Nat.{ℕ, zero, suc, ◌+◌, ◌-◌, ◌≤◌, ◌<◌}
 use mathlib.Core.Path.{◌≡◌, refl, sym, ◌∙◌, ap, ap₂, subst}
 use mathlib.Core.Bool.{Bool, true, false, true≢false}
-use mathlib.Core.List.{List, [], ◌++◌}
+use mathlib.Core.List.{List, ◌++◌}
 use mathlib.Core.Logic.{⊎_elim}
 use native.Mathlib.Nat.{mul-pos, eq-or-lt_of_le, le_of_suc-le-suc}
 use native.Mathlib.Omega.{arith}
@@ -13,15 +13,15 @@ use borrow.Author.Tests.{not-false}
 use contract.Lifetimes.{Lfts}
 use denote.Triple.Clauses.{AtExit}
 use borrow.Fn.Kinds.{Dens, res_t, ended_of}
-use Rattle.units.specs.declared.EnergyAnswer.{EnergyAnswer}
-use Rattle.units.specs.declared.EnergyAnswer.TheVariants.{Energy}
-use Rattle.units.specs.Answers.{energy_answer, energy_refusal}
-use Rattle.units.specs.Refusals.{Verdict, passes, refuses, refuse_if, ◌▷◌, if_passes, number_in, number_of}
+use Rattle.std.specs.Prelude.{Result, Ok, Err}
+use Rattle.units.specs.declared.refusal.Refusal.{Refusal}
+use Rattle.units.specs.declared.refusal.Refusal.TheVariants.{BadSum}
+use Rattle.units.specs.Refusals.{Verdict, passes, refuse_if, ◌▷◌, if_passes, answer as answer_of}
 use Rattle.units.proofs.Verdicts.{no_fault, first_passes, rest_passes}
-use Rattle.bay_system.specs.System.{System, system, bays}
+use Rattle.bay_system.specs.System.{System, system_of, bays}
 use Rattle.bay_system.proofs.Fine.{Fine, fine}
 use Rattle.energy_state.specs.StateG.{in_kcal}
-use Rattle.bay_lists.specs.Lists.{Constraints, constraints}
+use Rattle.bay_lists.specs.Lists.{Constraints, constraints_of}
 use Rattle.bay_legal_at.specs.Layouts.{LegalLayout}
 use Rattle.bay_given.specs.Given.{given_verdict}
 use Rattle.bay_legal.specs.Sets.{sets_of, empty_verdict}
@@ -49,30 +49,27 @@ use Rattle.run_audit_trail.proofs.Trail.{trail, at_the_end}
 use Rattle.run_audit_trail.proofs.Tests.{passes_early, early_passes, early_is_not_ten}
 
 -- ---- what a verdict tells of an answer
-an_energy : (v : Verdict) (x energy : Float) → energy_answer v x ≡ Energy energy → (v ≡ passes) × (x ≡ energy)
-an_energy passes x energy e = (refl, cc)
-an_energy (refuses number values) x energy e = let clash : ◌≡◌ {A = ℕ} 0 1 = cc in absurd (omega arith)
-
-passed_number : (v w : Verdict) → v ≡ passes → number_in (v ▷ w) ≡ number_in w
-passed_number passes w e = refl
-passed_number (refuses number values) w e = let clash : ◌≡◌ {A = ℕ} 0 1 = cc in absurd (omega arith)
+an_energy : (v : Verdict) (x energy : Float) → answer_of v x ≡ Ok energy → (v ≡ passes) × (x ≡ energy)
+an_energy (Ok _) x energy e = (refl, cc)
+an_energy (Err r) x energy e = let clash : ⊥ = cc in absurd clash
 
 -- a chain whose first test does not give 10 gives 10 where the test passes and the rest does
-ten_later : (v w : Verdict) → (number_in v ≡ 10 → ⊥) → number_in (v ▷ w) ≡ 10 → (v ≡ passes) × (number_in w ≡ 10)
-ten_later passes w other e = (refl, e)
-ten_later (refuses number values) w other e = absurd (other e)
+ten_later : (v w : Verdict) (x : Float) → (v ≡ Err BadSum → ⊥) → answer_of (v ▷ w) x ≡ Err BadSum → (v ≡ passes) × (w ≡ Err BadSum)
+ten_later (Ok _) (Ok _) x other e = let clash : ⊥ = cc in absurd clash
+ten_later (Ok _) (Err r) x other e = let same : r ≡ BadSum = cc in (refl, ap Err same)
+ten_later (Err r) w x other e = let same : r ≡ BadSum = cc in absurd (other (ap Err same))
 
-ten_by : (b : Bool) → number_in (refuse_if b 10 []) ≡ 10 → b ≡ true
+ten_by : (b : Bool) → refuse_if b BadSum ≡ Err BadSum → b ≡ true
 ten_by true e = refl
-ten_by false e = absurd (omega (arith, e))
+ten_by false e = let clash : ⊥ = cc in absurd clash
 
 kept : {A : Type 0} (v : Verdict) (new old : A) → (v ≡ passes → ⊥) → if_passes v new old ≡ old
-kept passes new old no-pass = absurd (no-pass refl)
-kept (refuses number values) new old no-pass = refl
+kept (Ok _) new old no-pass = absurd (no-pass refl)
+kept (Err r) new old no-pass = refl
 
 kept_then : {A : Type 0} (v w : Verdict) (new old : A) → (v ≡ passes → ⊥) → if_passes (v ▷ w) new old ≡ old
-kept_then passes w new old no-pass = absurd (no-pass refl)
-kept_then (refuses number values) w new old no-pass = refl
+kept_then (Ok _) w new old no-pass = absurd (no-pass refl)
+kept_then (Err r) w new old no-pass = refl
 
 -- a row's place lies before the end of the ledger
 inside : (s : System) (c : Constraints) (m k i : ℕ) → k < m → i < length (rows_after s c k) → begins s c k + i < begins s c m
@@ -86,8 +83,7 @@ inside s c (suc m) k i h b = ⊎_elim last (earlier (inside s c m k i)) (eq-or-l
     earlier : (k < m → i < length (rows_after s c k) → begins s c k + i < begins s c m) → k < m → begins s c k + i < begins s c m + length (rows_after s c m)
     earlier before l = omega (arith, before l b)
 
-module _ (s : System) (c : Constraints) (r : EnergyAnswer) (l₀ l₁ : List ℕ) (e₀ e₁ : List Float) (n₀ n₁ : List ℕ)
-    (number : number_of (energy_refusal r) ≡ number_in (run_verdict s c (length l₀) (length e₀) (length n₀)))
+module _ (s : System) (c : Constraints) (r : Result Float Refusal) (l₀ l₁ : List ℕ) (e₀ e₁ : List Float) (n₀ n₁ : List ℕ)
     (answer : r ≡ mfe_answer s c (length l₀) (length e₀) (length n₀))
     (laid : l₁ ≡ layout_after s c (length e₀) (length n₀) l₀)
     (energies_held : e₁ ≡ energies_after s c (length l₀) (length n₀) e₀)
@@ -126,8 +122,8 @@ module _ (s : System) (c : Constraints) (r : EnergyAnswer) (l₀ l₁ : List ℕ
       table_is blank new old = ap (λ (v : Verdict). if_passes v (front (if_passes (sum_verdict s c) new (replicate (run_need s c) blank)) old) old) passed
 
       front_long : {A : Type 0} (v : Verdict) (blank : A) (new : List A) → length new ≡ need z n → length (if_passes v new (replicate (run_need s c) blank)) ≡ needed s c
-      front_long passes blank new long = long ∙ need_is
-      front_long (refuses number values) blank new long = length-replicate (run_need s c) blank ∙ need_is
+      front_long (Ok _) blank new long = long ∙ need_is
+      front_long (Err r) blank new long = length-replicate (run_need s c) blank ∙ need_is
 
       beyond_of : {A : Type 0} (blank : A) (new old : List A) → length new ≡ need z n → drop (needed s c) (table_after early (sum_verdict s c) (run_need s c) blank new old) ≡ drop (needed s c) old
       beyond_of blank new old long =
@@ -138,7 +134,7 @@ module _ (s : System) (c : Constraints) (r : EnergyAnswer) (l₀ l₁ : List ℕ
       -- ---- an energy
       module _ (no_fault_of : sum_verdict s c ≡ passes) where
         is_good : Answered z n
-        is_good = not-false (lt (inf true) (least_sum s c)) (sym (bad_is (least_sum s c)) ∙ no_fault (is_bad (least_sum s c)) 10 [] no_fault_of)
+        is_good = not-false (lt (inf true) (least_sum s c)) (sym (bad_is (least_sum s c)) ∙ no_fault (is_bad (least_sum s c)) BadSum no_fault_of)
 
         table_at : {A : Type 0} (blank : A) (new old : List A) → table_after early (sum_verdict s c) (run_need s c) blank new old ≡ new ++ drop (length new) old
         table_at blank new old =
@@ -174,7 +170,7 @@ module _ (s : System) (c : Constraints) (r : EnergyAnswer) (l₀ l₁ : List ℕ
             let fits_n : needed s c ≤ length n₁ = omega (arith, ap length at_n, length-append (note_table z n) (drop (length (note_table z n)) n₀), long_n, need_is) in
             let some : 0 < n = mul-pos sizes.some_rows sizes.some_cols in
             let all : suc (n - 1) ≡ n = omega (arith, some) in
-            let least = no_fault (is_bad (least_sum s c)) 10 [] no_fault_of in
+            let least = no_fault (is_bad (least_sum s c)) BadSum no_fault_of in
             record {
               trail = trail s c own ledger e₁ n₁ held noted is_good (fits_e, fits_n);
               legal = subst (LegalLayout s c) (sym lay) right.legal;
@@ -205,7 +201,7 @@ module _ (s : System) (c : Constraints) (r : EnergyAnswer) (l₀ l₁ : List ℕ
           → take (needed s c) (table_after early (sum_verdict s c) (run_need s c) blank new old) ≡ replicate (needed s c) blank
       zeros blank new old bad =
           let written = replicate (run_need s c) blank in
-          ap (take (needed s c)) (table_is blank new old ∙ ap (λ (b : Bool). front (if_passes (refuse_if b 10 []) new written) old) bad)
+          ap (take (needed s c)) (table_is blank new old ∙ ap (λ (b : Bool). front (if_passes (refuse_if b BadSum) new written) old) bad)
           ∙ take_at written (drop (length written) old) (needed s c) (length-replicate (run_need s c) blank ∙ need_is)
           ∙ ap (λ (m : ℕ). replicate m blank) need_is
 
@@ -213,12 +209,12 @@ module _ (s : System) (c : Constraints) (r : EnergyAnswer) (l₀ l₁ : List ℕ
     ready_if : early ≡ passes → Ready
     ready_if = early_passes s c (length l₀) (length e₀) (length n₀)
 
-    answered_by : (energy : Float) → r ≡ Energy energy → (run_verdict s c (length l₀) (length e₀) (length n₀) ≡ passes) × (in_kcal (least_sum s c) s.sizes.kelvin ≡ energy)
+    answered_by : (energy : Float) → r ≡ Ok energy → (run_verdict s c (length l₀) (length e₀) (length n₀) ≡ passes) × (in_kcal (least_sum s c) s.sizes.kelvin ≡ energy)
     answered_by energy e = an_energy (run_verdict s c (length l₀) (length e₀) (length n₀)) (in_kcal (least_sum s c) s.sizes.kelvin) energy (sym answer ∙ e)
 
-    ten : number_of (energy_refusal r) ≡ 10 → Ready × (is_bad (least_sum s c) ≡ true)
+    ten : r ≡ Err BadSum → Ready × (is_bad (least_sum s c) ≡ true)
     ten e =
-        let both = ten_later early (sum_verdict s c) (early_is_not_ten s c (length l₀) (length e₀) (length n₀)).other (sym number ∙ e) in
+        let both = ten_later early (sum_verdict s c) (in_kcal (least_sum s c) s.sizes.kelvin) (early_is_not_ten s c (length l₀) (length e₀) (length n₀)).other (sym answer ∙ e) in
         (ready_if both.0, ten_by (is_bad (least_sum s c)) both.1)
 
     pub demand_3 : Demand3 s c r l₀ l₁ e₀ e₁ n₀ n₁
@@ -231,23 +227,23 @@ module _ (s : System) (c : Constraints) (r : EnergyAnswer) (l₀ l₁ : List ℕ
             λ found.
                 let by = answered_by found.0 found.1 in
                 let ready = ready_if (first_passes early (sum_verdict s c) by.0) in
-                (ready, all_good ready (no_fault (is_bad (least_sum s c)) 10 [] (rest_passes early (sum_verdict s c) by.0))),
+                (ready, all_good ready (no_fault (is_bad (least_sum s c)) BadSum (rest_passes early (sum_verdict s c) by.0))),
             λ both. (
               in_kcal (least_sum s c) s.sizes.kelvin,
               answer
-                  ∙ ap₂ (λ (v : Verdict) (b : Bool). energy_answer (v ▷ refuse_if b 10 []) (in_kcal (least_sum s c) s.sizes.kelvin)) (passed both.0) (none_bad both.0 both.1),
+                  ∙ ap₂ (λ (v : Verdict) (b : Bool). answer_of (v ▷ refuse_if b BadSum) (in_kcal (least_sum s c) s.sizes.kelvin)) (passed both.0) (none_bad both.0 both.1),
             ),
           );
           refused = (
             λ e. let bad = ten e in (bad.0, bad_one bad.0 bad.1),
             λ both.
-                number
-                ∙ passed_number early (sum_verdict s c) (passed both.0)
-                ∙ ap (λ (b : Bool). number_in (refuse_if b 10 [])) ((right both.0).refused.1 both.1),
+                answer
+                ∙ ap₂ (λ (v : Verdict) (b : Bool). answer_of (v ▷ refuse_if b BadSum) (in_kcal (least_sum s c) s.sizes.kelvin)) (passed both.0)
+                ((right both.0).refused.1 both.1),
           );
           cleared = λ e.
               let bad = ten e in (
-                laid ∙ ap₂ (λ (v : Verdict) (b : Bool). if_passes (v ▷ refuse_if b 10 []) (least_layout s c) l₀) (passed bad.0) bad.1,
+                laid ∙ ap₂ (λ (v : Verdict) (b : Bool). if_passes (v ▷ refuse_if b BadSum) (least_layout s c) l₀) (passed bad.0) bad.1,
                 ap (take (needed s c)) energies_held ∙ zeros bad.0 (of_bits binary64 0) (energy_table z n) e₀ bad.1,
                 ap (take (needed s c)) notes_held ∙ zeros bad.0 0 (note_table z n) n₀ bad.1,
               );
@@ -262,21 +258,19 @@ module _ (s : System) (c : Constraints) (r : EnergyAnswer) (l₀ l₁ : List ℕ
 
 -- ---- of the call itself
 -- the system and the constraints that a call is lent
-abbrev pub system_lent : (κs : Lfts 11) → Dens κs kinds.ps → System
-system_lent κs a =
-    system a.0 a.1.0.now a.1.1.0.now a.1.1.1.0.now a.1.1.1.1.0.now a.1.1.1.1.1.0.now a.1.1.1.1.1.1.0.now
+abbrev pub system_lent : (κs : Lfts 7) → Dens κs kinds.ps → System
+system_lent κs a = system_of a.0.now
 
-abbrev pub constraints_lent : (κs : Lfts 11) → Dens κs kinds.ps → Constraints
-constraints_lent κs a =
-    constraints a.1.1.1.1.1.1.1.0 a.1.1.1.1.1.1.1.1.0.now a.1.1.1.1.1.1.1.1.1.0.now
+abbrev pub constraints_lent : (κs : Lfts 7) → Dens κs kinds.ps → Constraints
+constraints_lent κs a = constraints_of a.1.0.now
 
 -- THE THEOREM: what meets the contract of `mfe_configuration` meets demand 3, of the layout, the energies and the bytes that were lent
 pub the-ledger-is-an-audit-trail :
-    (κs : Lfts 11) (lent : Dens κs kinds.ps) (answer : (res_t kinds.r κs).Denot) (exit : AtExit (ended_of 11 kinds.ps kinds.r) κs)
+    (κs : Lfts 7) (lent : Dens κs kinds.ps) (answer : (res_t kinds.r κs).Denot) (exit : AtExit (ended_of 7 kinds.ps kinds.r) κs)
     → reads.Post κs lent answer exit
     → Demand3 (system_lent κs lent) (constraints_lent κs lent) answer
-    lent.1.1.1.1.1.1.1.1.1.1.0.now exit.1.1.1.1.1.1.1.1.1.1.0.now
-    lent.1.1.1.1.1.1.1.1.1.1.1.0.now exit.1.1.1.1.1.1.1.1.1.1.1.0.now
-    lent.1.1.1.1.1.1.1.1.1.1.1.1.0.now exit.1.1.1.1.1.1.1.1.1.1.1.1.0.now
+    lent.1.1.0.now exit.1.1.0.now
+    lent.1.1.1.0.now exit.1.1.1.0.now
+    lent.1.1.1.1.0.now exit.1.1.1.1.0.now
 the-ledger-is-an-audit-trail κs lent answer exit post =
-    demand_3 (system_lent κs lent) (constraints_lent κs lent) answer _ _ _ _ _ _ post.0.number post.1.0 post.1.1.0 post.1.1.1.0 post.1.1.1.1
+    demand_3 (system_lent κs lent) (constraints_lent κs lent) answer _ _ _ _ _ _ post.0 post.1.0 post.1.1.0 post.1.1.1

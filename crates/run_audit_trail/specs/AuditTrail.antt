@@ -1,15 +1,14 @@
 -- DEMAND 3: the ledger of a run is an audit trail. The customer's sentences, about what `sdc2d_thermo::mfe_configuration` was lent and what it left.
 -- `proofs/TheLedgerIsAnAuditTrail.antt` proves them of the call's own contract, with the system and the lists that it was lent. All NaN are one value here.
 -- Assumes nothing.
-use Rattle.std.specs.Prelude.{ℕ, suc, ◌+◌, ◌≤◌, ◌<◌, ◌≡◌, true, false, List, [], ◌↔◌, Float, length, get_or, take, drop, replicate}
+use Rattle.std.specs.Prelude.{ℕ, suc, ◌+◌, ◌≤◌, ◌<◌, ◌≡◌, true, false, List, [], ◌↔◌, Float, Result, Ok, Err, length, get_or, take, drop, replicate}
 use Rattle.std.specs.Float.{nan, binary64}
 use Rattle.std.specs.Float.Ieee.{of_bits, mul, lt, le}
 use Rattle.units.specs.Limits.{most_rows}
-use Rattle.units.specs.declared.EnergyAnswer.{EnergyAnswer}
-use Rattle.units.specs.declared.EnergyAnswer.TheVariants.{Energy}
-use Rattle.units.specs.Answers.{energy_refusal}
+use Rattle.units.specs.declared.refusal.Refusal.{Refusal}
+use Rattle.units.specs.declared.refusal.Refusal.TheVariants.{BadSum}
 use Rattle.units.specs.Kelvin.{rtval}
-use Rattle.units.specs.Refusals.{passes, number_of}
+use Rattle.units.specs.Refusals.{passes}
 use Rattle.bay_system.specs.System.{System, bays, system_verdict}
 use Rattle.bay_lists.specs.Lists.{Constraints, offsets_shaped}
 use Rattle.bay_legal_at.specs.Legal.{is_legal}
@@ -94,20 +93,20 @@ pub record EarlierTestsPass (s : System) (c : Constraints) (layout_length energi
 
 -- Demand 3 of one call: the answer, and each lent slice before it (₀) and after it (₁).
 pub record Demand3
-    (s : System) (c : Constraints) (answer : EnergyAnswer) (layout₀ layout₁ : List ℕ) (energies₀ energies₁ : List Float) (leaving₀ leaving₁ : List ℕ) : Type 0
+    (s : System) (c : Constraints) (answer : Result Float Refusal) (layout₀ layout₁ : List ℕ) (energies₀ energies₁ : List Float) (leaving₀ leaving₁ : List ℕ) : Type 0
   where
     -- what stands where an energy is answered
-    pub answered : (energy : Float) → answer ≡ Energy energy → AnsweredRun s c energy layout₁ energies₁ leaving₁
+    pub answered : (energy : Float) → answer ≡ Ok energy → AnsweredRun s c energy layout₁ energies₁ leaving₁
     -- an energy is answered exactly when the earlier tests pass and no legal layout's scan sum is NaN or minus infinity
-    pub answers : ((energy : Float) × (answer ≡ Energy energy))
+    pub answers : ((energy : Float) × (answer ≡ Ok energy))
         ↔ (EarlierTestsPass s c (length layout₀) (length energies₀) (length leaving₀)
         × ((layout : List ℕ) → LegalLayout s c layout → is_bad (scan_sum_of s layout) ≡ false))
     -- "a run is refused for its energies", as 10, "exactly when some legal layout's scan sum is NaN or minus infinity": the earlier tests pass and there is one
-    pub refused : (number_of (energy_refusal answer) ≡ 10)
+    pub refused : (answer ≡ Err BadSum)
         ↔ (EarlierTestsPass s c (length layout₀) (length energies₀) (length leaving₀)
         × ((layout : List ℕ) × LegalLayout s c layout × (is_bad (scan_sum_of s layout) ≡ true)))
     -- then the needed places are 0, and the layout stays
-    pub cleared : number_of (energy_refusal answer) ≡ 10
+    pub cleared : answer ≡ Err BadSum
         → (layout₁ ≡ layout₀) × (take (needed s c) energies₁ ≡ replicate (needed s c) (of_bits binary64 0)) × (take (needed s c) leaving₁ ≡ replicate (needed s c) 0)
     -- where the earlier tests pass, the places beyond the need stay; where one does not, all stays
     pub beyond : EarlierTestsPass s c (length layout₀) (length energies₀) (length leaving₀)
