@@ -3,7 +3,7 @@ use Prim.Native.Nat.{ℕ, suc, ◌+◌, ◌*◌, ◌<◌}
 use mathlib.Core.Path.{◌≡◌}
 use mathlib.Core.List.{List}
 use lib.ListN.{get_or}
-use Rattle.units.specs.declared.CountAnswer.TheVariants.{Count}
+use Rattle.std.specs.Prelude.{Ok}
 use Rattle.units.specs.Refusals.{passes}
 use Rattle.name_glue_tables.proofs.Cells.{bay_cell, no_strand_cell, strand_cell}
 use Rattle.name_register_input.specs.Input.{Request, first_bay, bay_count, entry_count}
@@ -11,7 +11,7 @@ use Rattle.name_registering.specs.Register.{register_verdict, register_answer, g
 use Rattle.name_glue_numbers.proofs.Numbers.{count, list, glue}
 
 module _ (q : Request) (p : register_verdict q ≡ passes) where
-  pub the_count : register_answer q ≡ Count (count q.names (entry_count q))
+  pub the_count : register_answer q ≡ Ok (count q.names (entry_count q))
   the_count = rw p
 
   pub the_list : (bases : List ℕ) → bases_after q bases ≡ list q.names (entry_count q)

@@ -5,9 +5,9 @@ use mathlib.Core.Path.{◌≡◌, refl, ap, ◌∙◌}
 use native.Mathlib.Nat.{sub-zero}
 use native.Mathlib.Omega.{arith}
 use lib.ListN.{length, take, set, length-append, length-set}
-use Rattle.units.specs.declared.CountAnswer.{CountAnswer}
+use Rattle.std.specs.Prelude.{Result}
+use Rattle.units.specs.declared.refusal.Refusal.{Refusal}
 use Rattle.name_glues.specs.Names.{GlueNames, glue_names}
-use Rattle.name_registering.proofs.Answered.{asked, Answered}
 use Rattle.sheet_records.specs.Tables.{columns}
 use Rattle.sheet_names.specs.Appended.{flag_of, ends, Appended}
 use Rattle.sheet_names.specs.FrontFilled.{no_entries, FrontFilled}
@@ -86,13 +86,7 @@ module _ (rows cols strands : ℕ) (strand_sheet scaffold_sheet : List ℕ) {tex
 
 -- ---- what is registered
 
--- what `register` finds with the fronts of the tables
-module _ (rows cols strands : ℕ) {text offsets present text' offsets' present' glues scaffold bases : List ℕ} {answer : CountAnswer} {glues' scaffold' bases' : List ℕ} where
-  pub registers_fronts : text ≡ text' → offsets ≡ offsets' → present ≡ present' → Answered (asked rows cols strands (glue_names text offsets present) glues scaffold bases) answer glues scaffold bases glues' scaffold' bases'
-      → Registers rows cols strands (glue_names text' offsets' present') answer glues scaffold bases glues' scaffold' bases'
-  registers_fronts t o p r = rw (← t, ← o, ← p) (record { refused = r.0; answered = r.1.0; glues_written = r.1.1.0; scaffold_written = r.1.1.1.0; bases_written = r.1.1.1.1 })
-
 -- equal names are registered equally
-pub registers_as : {rows cols strands : ℕ} {n m : GlueNames} {answer : CountAnswer} {glues scaffold bases glues' scaffold' bases' : List ℕ}
-    → n ≡ m → Registers rows cols strands n answer glues scaffold bases glues' scaffold' bases' → Registers rows cols strands m answer glues scaffold bases glues' scaffold' bases'
+pub registers_as : {rows cols strands : ℕ} {n m : GlueNames} {result : Result ℕ Refusal} {glues scaffold bases glues' scaffold' bases' : List ℕ}
+    → n ≡ m → Registers rows cols strands n result glues scaffold bases glues' scaffold' bases' → Registers rows cols strands m result glues scaffold bases glues' scaffold' bases'
 registers_as e r = rw (← e) r

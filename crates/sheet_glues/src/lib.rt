@@ -9,8 +9,9 @@ ghost use Rattle.sheet_glues.specs.SheetGlues.{sheet_glues, bytes_laid, laid_nam
 
 use name_registering::register;
 use sheet_names::{Entries, put_columns};
+use text_entries::Names;
 use text_fronts::front;
-use units::CountAnswer;
+use units::Refusal;
 
 // Registers the glue names of two sheets: fields 3 to 7 of each strand's record, then the scaffold's fields row by row. A
 // blank field is no glue.
@@ -26,7 +27,7 @@ pub fn register_sheets(
     strand_glues: &mut [u32],
     scaffold: &mut [u32],
     bases: &mut [usize],
-) -> CountAnswer
+) -> Result<usize, Refusal>
     requires le_strands { 1 ≤ strands }
     requires cols_in_bounds { (strands - 1) * 5 + rows * cols < length offsets.old }
     requires cols_in_bounds_2 { (strands - 1) * 5 + rows * cols ≤ length present.old }
@@ -102,7 +103,7 @@ fn register_fronts(
     strand_glues: &mut [u32],
     scaffold: &mut [u32],
     bases: &mut [usize],
-) -> CountAnswer
+) -> Result<usize, Refusal>
     requires { all.entries < length offsets.now }
     ensures { let text' = take all.bytes text.now in
         let offsets' = take (all.entries + 1) offsets.now in
@@ -114,9 +115,11 @@ fn register_fronts(
         rows,
         cols,
         strands,
-        front(text, all.bytes),
-        front(offsets, all.entries + 1),
-        front(present, all.entries),
+        &Names {
+            text: front(text, all.bytes),
+            offsets: front(offsets, all.entries + 1),
+            present: front(present, all.entries),
+        },
         strand_glues,
         scaffold,
         bases,
