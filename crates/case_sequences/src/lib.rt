@@ -11,31 +11,24 @@ use case_fields::{float_field, text_field};
 use case_lists::Count;
 use case_replies::{Reply, put_energy};
 use case_text::{call_name, front, same};
-use units::{BaseEnergyAnswer, HundredthsAnswer};
+use units::{BaseEnergy, Refusal};
 use utils::{sequence_pair_str_dg_ds, string_dna_delta_g, string_dna_dg_ds, string_dna_hundredths};
 
-fn put_base_energy(out: &mut [u8], answer: BaseEnergyAnswer) -> usize
+fn put_base_energy(out: &mut [u8], answer: Result<BaseEnergy, Refusal>) -> usize
     ensures { result ≤ length out.old }
 {
     match answer {
-        BaseEnergyAnswer::Refused(r) => refused(out, r),
-        BaseEnergyAnswer::Found(energy) => put_floats(
-            out,
-            0,
-            b"base_energy ",
-            energy.dg,
-            b" ",
-            energy.ds,
-        ),
+        Err(refusal) => refused(out, refusal),
+        Ok(energy) => put_floats(out, 0, b"base_energy ", energy.dg, b" ", energy.ds),
     }
 }
 
-fn put_hundredths(out: &mut [u8], answer: HundredthsAnswer) -> usize
+fn put_hundredths(out: &mut [u8], answer: Result<i32, Refusal>) -> usize
     ensures { result ≤ length out.old }
 {
     match answer {
-        HundredthsAnswer::Refused(r) => refused(out, r),
-        HundredthsAnswer::Hundredths(z) => {
+        Err(refusal) => refused(out, refusal),
+        Ok(z) => {
             let word = put_text(out, 0, b"hundredths ");
             put_signed(out, word, z)
         }
