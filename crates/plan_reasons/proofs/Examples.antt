@@ -6,7 +6,7 @@ use Rattle.units.specs.Decimals.{decimal, plus, minus}
 use Rattle.bay_lists.specs.Lists.{Constraints, absent, lists, names}
 use Rattle.plan_list_readers.specs.Reading.{only_zeros}
 use Rattle.bay_legal_at.specs.Legal.{seed_at}
-use Rattle.bay_system.specs.System.{System, system}
+use Rattle.bay_system.specs.System.{System}
 use Rattle.plan_reasons.specs.declared.bays.BayReason.TheVariants.{Seeded, KeptEmpty, Restricted, Free}
 use Rattle.plan_reasons.specs.declared.rules.StrandRule.TheVariants.{Legal, OtherSeed, NoBond, NotNamed, Unknown}
 use Rattle.plan_reasons.specs.Reasons.{reason_of, rule_of}
@@ -15,11 +15,15 @@ use Rattle.plan_reasons.specs.Reasons.{reason_of, rule_of}
 -- not, and is seeded on the first bay
 unfoldable pub small : System
 small =
-    system (record { rows = 1; cols = 5; strands = 3; glues = 3; kelvin = plus 310 1 })
-    (0 ∷ 0 ∷ 0 ∷ 0 ∷ 0 ∷ 0 ∷ 0 ∷ 0 ∷ 0 ∷ 2 ∷ 0 ∷ 0 ∷ 0 ∷ 0 ∷ 0 ∷ []) (1 ∷ 1 ∷ 1 ∷ 1 ∷ 1 ∷ [])
-    (plus 0 1 ∷ plus 0 1 ∷ plus 0 1 ∷ plus 0 1 ∷ plus 0 1 ∷ minus 1 1 ∷ plus 0 1 ∷ minus 1 1 ∷ plus 0 1 ∷ [])
-    (plus 0 1 ∷ plus 0 1 ∷ plus 0 1 ∷ plus 0 1 ∷ plus 0 1 ∷ plus 0 1 ∷ plus 0 1 ∷ plus 0 1 ∷ plus 0 1 ∷ [])
-    (plus 0 1 ∷ plus 0 1 ∷ plus 0 1 ∷ []) (0 ∷ 0 ∷ 2 ∷ [])
+    record {
+      sizes = record { rows = 1; cols = 5; strands = 3; glues = 3; kelvin = plus 310 1 };
+      strand_glues = 0 ∷ 0 ∷ 0 ∷ 0 ∷ 0 ∷ 0 ∷ 0 ∷ 0 ∷ 0 ∷ 2 ∷ 0 ∷ 0 ∷ 0 ∷ 0 ∷ 0 ∷ [];
+      scaffold = 1 ∷ 1 ∷ 1 ∷ 1 ∷ 1 ∷ [];
+      delta_g = plus 0 1 ∷ plus 0 1 ∷ plus 0 1 ∷ plus 0 1 ∷ plus 0 1 ∷ minus 1 1 ∷ plus 0 1 ∷ minus 1 1 ∷ plus 0 1 ∷ [];
+      entropy = plus 0 1 ∷ plus 0 1 ∷ plus 0 1 ∷ plus 0 1 ∷ plus 0 1 ∷ plus 0 1 ∷ plus 0 1 ∷ plus 0 1 ∷ plus 0 1 ∷ [];
+      logs = plus 0 1 ∷ plus 0 1 ∷ plus 0 1 ∷ [];
+      seeds = 0 ∷ 0 ∷ 2 ∷ [];
+    }
 
 -- the lists of the bays: 1, 0, `0 0`, `0 7`, none
 unfoldable pub listed : Constraints

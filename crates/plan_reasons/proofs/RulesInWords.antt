@@ -6,12 +6,11 @@ use mathlib.Core.List.{List, [], ◌∷◌}
 use native.Mathlib.Omega.{arith}
 use lib.Dec.{eqb, ltb}
 use borrow.Author.Tests.{ltb-false, eq-eqb}
+use Rattle.std.proofs.Common.{Option, Some, None}
 use Rattle.bay_glues.specs.Tables.{scaffold_glue}
 use Rattle.bay_lists.specs.Lists.{Constraints, list_of, list_allows, names}
 use Rattle.bay_binding.specs.Binding.{binds}
 use Rattle.bay_system.specs.System.{System}
-use Rattle.bay_legal_at.specs.declared.seeds.Seed.{Seed}
-use Rattle.bay_legal_at.specs.declared.seeds.Seed.TheVariants.{Unseeded, Seeded}
 use Rattle.bay_legal_at.specs.Legal.{seed_of}
 use Rattle.plan_reasons.specs.declared.rules.StrandRule.{StrandRule}
 use Rattle.plan_reasons.specs.declared.rules.StrandRule.TheVariants.{OtherSeed, NoBond, NotNamed, Unknown}
@@ -71,11 +70,11 @@ not_named [] t n = absurd (true≢false n)
 not_named (x ∷ list) t n = n
 
 module _ (s : System) (c : Constraints) (bay strand : ℕ) where
-  abbrev lies : Seed
+  abbrev lies : Option ℕ
   lies = seed_of s bay
 
   abbrev bond : Bool
-  bond = binds s.strand_glues s.delta_g s.entropy s.sizes.glues (scaffold_glue s.scaffold bay) strand
+  bond = binds s (scaffold_glue s.scaffold bay) strand
 
   abbrev known : Bool
   known = ltb strand s.sizes.strands
@@ -84,35 +83,35 @@ module _ (s : System) (c : Constraints) (bay strand : ℕ) where
   allowed = list_allows (list_of c bay) strand
 
   -- the rule where the bay's seed is x
-  abbrev rule : Seed → StrandRule
+  abbrev rule : Option ℕ → StrandRule
   rule x = cond known (rule_by x strand (eqb strand 0 || bond) allowed) Unknown
 
   pub unknown_says : rule_of s c bay strand ≡ Unknown → s.sizes.strands ≤ strand
   unknown_says e = ltb-false strand s.sizes.strands (at lies e)
     where
-      at : (x : Seed) → rule x ≡ Unknown → known ≡ false
-      at (Seeded t) f = first_failed true known (eqb strand t) allowed f
-      at Unseeded f = first_failed false known (eqb strand 0 || bond) allowed f
+      at : (x : Option ℕ) → rule x ≡ Unknown → known ≡ false
+      at (Some t) f = first_failed true known (eqb strand t) allowed f
+      at None f = first_failed false known (eqb strand 0 || bond) allowed f
 
   pub other_seed_says : rule_of s c bay strand ≡ OtherSeed → OtherLies s bay strand
   other_seed_says e = at lies refl e
     where
-      at : (x : Seed) → lies ≡ x → rule x ≡ OtherSeed → OtherLies s bay strand
-      at (Seeded t) l f = record { other = t; lies = l; differs = apart strand t (other_seed true known (eqb strand t) allowed f).1 }
-      at Unseeded l f = absurd (true≢false (sym (other_seed false known (eqb strand 0 || bond) allowed f).0))
+      at : (x : Option ℕ) → lies ≡ x → rule x ≡ OtherSeed → OtherLies s bay strand
+      at (Some t) l f = record { other = t; lies = l; differs = apart strand t (other_seed true known (eqb strand t) allowed f).1 }
+      at None l f = absurd (true≢false (sym (other_seed false known (eqb strand 0 || bond) allowed f).0))
 
   pub no_bond_says : rule_of s c bay strand ≡ NoBond → NothingBinds s bay strand
   no_bond_says e = at lies refl e
     where
-      at : (x : Seed) → lies ≡ x → rule x ≡ NoBond → NothingBinds s bay strand
-      at (Seeded t) l f = absurd (true≢false (no_bond true known (eqb strand t) allowed f).0)
-      at Unseeded l f =
+      at : (x : Option ℕ) → lies ≡ x → rule x ≡ NoBond → NothingBinds s bay strand
+      at (Some t) l f = absurd (true≢false (no_bond true known (eqb strand t) allowed f).0)
+      at None l f =
           let forbidden = (no_bond false known (eqb strand 0 || bond) allowed f).1 in
           record { unseeded = l; not_0 = apart strand 0 (or_left (eqb strand 0) bond forbidden); no_bond = or_right (eqb strand 0) bond forbidden }
 
   pub not_named_says : rule_of s c bay strand ≡ NotNamed → LeftOut c bay strand
   not_named_says e = record { some = not_empty (list_of c bay) strand (at lies e); unnamed = not_named (list_of c bay) strand (at lies e) }
     where
-      at : (x : Seed) → rule x ≡ NotNamed → allowed ≡ false
-      at (Seeded t) f = last_failed true known (eqb strand t) allowed f
-      at Unseeded f = last_failed false known (eqb strand 0 || bond) allowed f
+      at : (x : Option ℕ) → rule x ≡ NotNamed → allowed ≡ false
+      at (Some t) f = last_failed true known (eqb strand t) allowed f
+      at None f = last_failed false known (eqb strand 0 || bond) allowed f

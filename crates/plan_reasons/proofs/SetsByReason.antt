@@ -10,14 +10,13 @@ use Rattle.units.specs.Refusals.{passes}
 use Rattle.units.proofs.Tests.{both, and_false}
 use Rattle.sets.proofs.Words.{word_same}
 use Rattle.sets.proofs.Operations.{word_only}
+use Rattle.std.proofs.Common.{Option, Some, None}
 use Rattle.bay_lists.specs.Lists.{Constraints, absent, names, list_allows, list_of}
 use Rattle.bay_lists.proofs.Naming.{or_false}
 use Rattle.bay_lists.proofs.Restricting.{and_true}
 use Rattle.plan_list_readers.specs.Reading.{only_zeros}
 use Rattle.bay_system.specs.System.{System, system_verdict}
 use Rattle.bay_system.proofs.Fine.{fine}
-use Rattle.bay_legal_at.specs.declared.seeds.Seed.{Seed}
-use Rattle.bay_legal_at.specs.declared.seeds.Seed.TheVariants as seed
 use Rattle.bay_legal_at.specs.Legal.{seed_of, permits, is_legal, set_at}
 use Rattle.bay_legal_at.specs.OnGrid.{Below}
 use Rattle.bay_legal_at.proofs.SeedBelow.{seed_below}
@@ -68,26 +67,26 @@ not_seeded (x ∷ list) t e = at (only_zeros (x ∷ list)) e
     at true f = let z : ◌≡◌ {A = ℕ} 0 1 = cc in omega arith
     at false f = let z : ◌≡◌ {A = ℕ} 0 1 = cc in omega arith
 
-seeded_is : (x : Seed) (list : List ℕ) (t : ℕ) → reason_by x list ≡ Seeded t → x ≡ seed.Seeded t
-seeded_is (seed.Seeded u) list t e = cc
-seeded_is seed.Unseeded list t e = absurd (not_seeded list t e)
+seeded_is : (x : Option ℕ) (list : List ℕ) (t : ℕ) → reason_by x list ≡ Seeded t → x ≡ Some t
+seeded_is (Some u) list t e = cc
+seeded_is None list t e = absurd (not_seeded list t e)
 
 -- ---- the set of a bay
 
 module _ (s : System) (c : Constraints) (bay : ℕ) where
-  abbrev lies : Seed
+  abbrev lies : Option ℕ
   lies = seed_of s bay
 
-  abbrev on_seed : Seed → ℕ → Bool
+  abbrev on_seed : Option ℕ → ℕ → Bool
   on_seed x t = ltb t s.sizes.strands && permits s bay x t
 
   -- a free bay has the set that it has without constraints
   pub free_set : reason_of s c bay ≡ Free → set_at s c bay ≡ set_at s absent bay
   free_set e = no_restriction s c bay (at lies e)
     where
-      at : (x : Seed) → reason_by x (list_of c bay) ≡ Free → list_of c bay ≡ []
-      at (seed.Seeded t) f = cc
-      at seed.Unseeded f = free_is (list_of c bay) f
+      at : (x : Option ℕ) → reason_by x (list_of c bay) ≡ Free → list_of c bay ≡ []
+      at (Some t) f = cc
+      at None f = free_is (list_of c bay) f
 
   -- at a restricted bay those strands are legal that the bay permits without constraints and that its list names
   pub restricted_legal : reason_of s c bay ≡ Restricted → (t : ℕ) → is_legal s c bay t ≡ (is_legal s absent bay t && names (list_of c bay) t)
@@ -95,9 +94,9 @@ module _ (s : System) (c : Constraints) (bay : ℕ) where
       ap (λ (b : Bool). on_seed lies t && b) (at lies e)
       ∙ ap (λ (b : Bool). b && names (list_of c bay) t) (sym (and_true (on_seed lies t)))
     where
-      at : (x : Seed) → reason_by x (list_of c bay) ≡ Restricted → list_allows (list_of c bay) t ≡ names (list_of c bay) t
-      at (seed.Seeded u) f = cc
-      at seed.Unseeded f = restricted_names (list_of c bay) f t
+      at : (x : Option ℕ) → reason_by x (list_of c bay) ≡ Restricted → list_allows (list_of c bay) t ≡ names (list_of c bay) t
+      at (Some u) f = cc
+      at None f = restricted_names (list_of c bay) f t
 
   module _ (passed : system_verdict s ≡ passes) where
     -- a bay that is kept empty has the set {0}, the number 1
@@ -107,17 +106,17 @@ module _ (s : System) (c : Constraints) (bay : ℕ) where
         some : 1 ≤ s.sizes.strands
         some = (fine s passed).shape.sizes.some_strands
 
-        only_zero : (t : ℕ) (b : Bool) → eqb t 0 ≡ b → (on_seed seed.Unseeded t && eqb t 0) ≡ eqb t 0
+        only_zero : (t : ℕ) (b : Bool) → eqb t 0 ≡ b → (on_seed None t && eqb t 0) ≡ eqb t 0
         only_zero t true z = let zero = eqb-true t 0 z in let below : t < s.sizes.strands = omega (arith, some) in rw (z, lt-ltb t s.sizes.strands below)
-        only_zero t false z = ap (λ (b : Bool). on_seed seed.Unseeded t && b) z ∙ and_false (on_seed seed.Unseeded t) ∙ sym z
+        only_zero t false z = ap (λ (b : Bool). on_seed None t && b) z ∙ and_false (on_seed None t) ∙ sym z
 
-        at : (x : Seed) → reason_by x (list_of c bay) ≡ KeptEmpty → (t : ℕ) → (on_seed x t && list_allows (list_of c bay) t) ≡ eqb t 0
-        at (seed.Seeded u) f t = cc
-        at seed.Unseeded f t = ap (λ (b : Bool). on_seed seed.Unseeded t && b) (kept_allows (list_of c bay) f t) ∙ only_zero t (eqb t 0) refl
+        at : (x : Option ℕ) → reason_by x (list_of c bay) ≡ KeptEmpty → (t : ℕ) → (on_seed x t && list_allows (list_of c bay) t) ≡ eqb t 0
+        at (Some u) f t = cc
+        at None f t = ap (λ (b : Bool). on_seed None t && b) (kept_allows (list_of c bay) f t) ∙ only_zero t (eqb t 0) refl
 
     -- a seeded bay has its seed alone where its list allows the seed, and nothing where the list leaves it out
     module _ (strand : ℕ) (e : reason_of s c bay ≡ Seeded strand) where
-      there : lies ≡ seed.Seeded strand
+      there : lies ≡ Some strand
       there = seeded_is lies (list_of c bay) strand e
 
       pub below : strand < s.sizes.strands

@@ -1,12 +1,10 @@
 -- Why a bay holds what it holds, and the rule for a strand at a bay. Assumes nothing.
-use Rattle.std.specs.Prelude.{ℕ, Bool, cond, List, [], ◌∷◌, eqb, ltb}
+use Rattle.std.specs.Prelude.{ℕ, Bool, cond, List, [], ◌∷◌, eqb, ltb, Option, Some, None}
 use Rattle.bay_glues.specs.Tables.{scaffold_glue}
 use Rattle.bay_lists.specs.Lists.{Constraints, list_of, list_allows}
 use Rattle.bay_binding.specs.Binding.{may_lie}
 use Rattle.plan_list_readers.specs.Reading.{only_zeros}
 use Rattle.bay_system.specs.System.{System}
-use Rattle.bay_legal_at.specs.declared.seeds.Seed.{Seed}
-use Rattle.bay_legal_at.specs.declared.seeds.Seed.TheVariants as seed
 use Rattle.bay_legal_at.specs.Legal.{seed_of}
 use Rattle.plan_reasons.specs.declared.bays.BayReason.{BayReason}
 use Rattle.plan_reasons.specs.declared.bays.BayReason.TheVariants.{Seeded, KeptEmpty, Restricted, Free}
@@ -21,9 +19,9 @@ list_reason [] = Free
 list_reason (tile ∷ tiles) = cond (only_zeros (tile ∷ tiles)) KeptEmpty Restricted
 
 -- of any bay: the seed that lies there, else what the list says
-abbrev pub reason_by : Seed → (list : List ℕ) → BayReason
-reason_by (seed.Seeded strand) list = Seeded strand
-reason_by seed.Unseeded list = list_reason list
+abbrev pub reason_by : Option ℕ → (list : List ℕ) → BayReason
+reason_by (Some strand) list = Seeded strand
+reason_by None list = list_reason list
 
 abbrev pub reason_of : System → Constraints → (bay : ℕ) → BayReason
 reason_of s c bay = reason_by (seed_of s bay) (list_of c bay)
@@ -42,12 +40,12 @@ seed_rule seed strand allowed = cond (eqb strand seed) (list_rule allowed) Other
 abbrev pub glue_rule : (may_lie_there allowed : Bool) → StrandRule
 glue_rule may_lie_there allowed = cond may_lie_there (list_rule allowed) NoBond
 
-abbrev pub rule_by : Seed → (strand : ℕ) → (may_lie_there allowed : Bool) → StrandRule
-rule_by (seed.Seeded seed) strand may_lie_there allowed = seed_rule seed strand allowed
-rule_by seed.Unseeded strand may_lie_there allowed = glue_rule may_lie_there allowed
+abbrev pub rule_by : Option ℕ → (strand : ℕ) → (may_lie_there allowed : Bool) → StrandRule
+rule_by (Some seed) strand may_lie_there allowed = seed_rule seed strand allowed
+rule_by None strand may_lie_there allowed = glue_rule may_lie_there allowed
 
 -- first of all the number is a strand's
 abbrev pub rule_of : System → Constraints → (bay strand : ℕ) → StrandRule
 rule_of s c bay strand =
-    let may_lie_there = may_lie s.strand_glues s.delta_g s.entropy s.sizes.glues (scaffold_glue s.scaffold bay) strand in
+    let may_lie_there = may_lie s (scaffold_glue s.scaffold bay) strand in
     cond (ltb strand s.sizes.strands) (rule_by (seed_of s bay) strand may_lie_there (list_allows (list_of c bay) strand)) Unknown

@@ -1,20 +1,21 @@
 // Which rule forbids a strand at a bay.
-ghost use Rattle.std.specs.Prelude.{◌≡◌, true, ◌<◌, [], length};
-ghost use Rattle.bay_system.specs.System.{system};
-ghost use Rattle.bay_bonds.specs.Readable.{Readable};
+ghost use Rattle.std.specs.Prelude.{◌≡◌, true, length};
+ghost use Rattle.bay_system.specs.System.{system_of};
 ghost use Rattle.bay_legal_at.specs.OnGrid.{OnGrid};
-ghost use Rattle.bay_lists.specs.Lists.{by_offsets, offsets_shaped};
+ghost use Rattle.bay_lists.specs.Lists.{constraints_of, offsets_shaped};
 ghost use Rattle.bay_binding.specs.Binding.{may_lie};
 ghost use Rattle.plan_reasons.specs.Reasons.{list_rule, seed_rule, glue_rule, rule_of};
 
 use bay_binding::binds;
-use bay_legal_at::{Seed, seed_at};
-use bay_lists::bay_list;
-use bay_system::Sizes;
+use bay_glues::scaffold_glue_at;
+use bay_legal_at::seed_at;
+use bay_lists::Constraints;
+use bay_system::System;
+use plan_list_readers::list_allows;
 
 // None; the bay's seed, which is another strand; no bond with the bay's glue; the bay's list, which leaves the strand out; no strand has
 // this number.
-#[derive(Clone, Copy)]
+#[derive(Clone, Copy, Debug, PartialEq, Eq)]
 pub enum StrandRule {
     Legal,
     OtherSeed,
@@ -34,30 +35,13 @@ fn list_rule(allowed: bool) -> StrandRule
 }
 
 // What an unseeded bay's glue says of a strand, then the bay's list.
-fn glue_rule(
-    z: Sizes,
-    strand_glues: &[u32],
-    delta_g: &[f64],
-    entropy: &[f64],
-    glue: u32,
-    strand: u32,
-    allowed: bool,
-) -> StrandRule
-    requires readable { Readable z.strands z.glues strand_glues.now delta_g.now entropy.now }
-    requires glue_lt_glues { (glue < z.glues) × (strand < z.strands) }
-    ensures { result ≡ glue_rule (may_lie strand_glues.now delta_g.now entropy.now z.glues glue strand) allowed }
+fn glue_rule(system: &System<'_>, glue: u32, strand: u32, allowed: bool) -> StrandRule
+    ensures { result ≡ glue_rule (may_lie (system_of system.now) glue strand) allowed }
 {
     if strand == 0 {
         return list_rule(allowed);
     }
-    if binds(
-        z.glues,
-        strand_glues,
-        delta_g,
-        entropy,
-        glue,
-        strand as usize,
-    ) {
+    if binds(system, glue, strand as usize) {
         return list_rule(allowed);
     }
     StrandRule::NoBond
@@ -65,33 +49,25 @@ fn glue_rule(
 
 // The rule for a strand at a bay: its number, then the bay's seed or else its glue, then the bay's list.
 pub fn strand_rule(
-    z: Sizes,
-    strand_glues: &[u32],
-    scaffold: &[u32],
-    delta_g: &[f64],
-    entropy: &[f64],
-    seeds: &[u32],
-    offsets: &[usize],
-    tiles: &[u32],
+    system: &System<'_>,
+    constraints: &Constraints<'_>,
     bay: usize,
     strand: u32,
 ) -> StrandRule
-    requires readable { Readable z.strands z.glues strand_glues.now delta_g.now entropy.now }
-    requires on_grid { OnGrid z scaffold.now seeds.now bay }
-    requires tiles_value { offsets_shaped (length scaffold.now) (by_offsets offsets.now tiles.now) ≡ true }
-    ensures { let s = system z strand_glues.now scaffold.now delta_g.now entropy.now [] seeds.now in
-        result ≡ rule_of s (by_offsets offsets.now tiles.now) bay strand }
+    requires on_grid { OnGrid (system_of system.now) bay }
+    requires shaped { offsets_shaped (length (system_of system.now).scaffold) (constraints_of constraints.now) ≡ true }
+    ensures { result ≡ rule_of (system_of system.now) (constraints_of constraints.now) bay strand }
 {
-    if z.strands <= strand as usize {
+    if system.sizes.strands <= strand as usize {
         return StrandRule::Unknown;
     }
-    let list = bay_list(scaffold.len(), offsets, tiles, bay);
-    let allowed = plan_list_readers::list_allows(list, strand);
-    match seed_at(z.cols, seeds, bay) {
-        Seed::Seeded(seed) => seed_rule(seed, strand, allowed),
-        Seed::Unseeded => {
-            let glue = bay_glues::scaffold_glue_at(scaffold, bay);
-            glue_rule(z, strand_glues, delta_g, entropy, glue, strand, allowed)
+    let list = constraints.bay_list(system.scaffold.len(), bay);
+    let allowed = list_allows(list, strand);
+    match seed_at(system, bay) {
+        Some(seed) => seed_rule(seed, strand, allowed),
+        None => {
+            let glue = scaffold_glue_at(system, bay);
+            glue_rule(system, glue, strand, allowed)
         }
     }
 }
