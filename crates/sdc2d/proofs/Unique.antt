@@ -15,10 +15,10 @@ use Rattle.bay_bonds.proofs.bond_with_scaffold.Reads as scaffold
 use Rattle.bay_binding.proofs.friends_btm.Kinds as friends-kinds
 use Rattle.bay_binding.proofs.friends_btm.Reads as friends
 
-pub strand_glues_of : OneAnswer 1 glues-kinds.ps glues-kinds.r glues.Post
+pub strand_glues_of : OneAnswer 2 glues-kinds.ps glues-kinds.r glues.Post
 strand_glues_of κs input a b at_a at_b p q = one_answer p q
 
-pub scaffold_glue_at : OneAnswer 1 bay-kinds.ps bay-kinds.r bay.Post
+pub scaffold_glue_at : OneAnswer 2 bay-kinds.ps bay-kinds.r bay.Post
 scaffold_glue_at κs input a b at_a at_b p q = one_answer p q
 
 pub glue_glue_dg : OneAnswer 2 dg-kinds.ps dg-kinds.r dg.Post
@@ -33,5 +33,5 @@ bond_ns κs input a b at_a at_b p q = one_answer p q
 pub bond_with_scaffold : OneAnswer 2 scaffold-kinds.ps scaffold-kinds.r scaffold.Post
 bond_with_scaffold κs input a b at_a at_b p q = one_answer p q
 
-pub friends_btm : OneAnswer 3 friends-kinds.ps friends-kinds.r friends.Post
+pub friends_btm : OneAnswer 2 friends-kinds.ps friends-kinds.r friends.Post
 friends_btm κs input a b at_a at_b p q = one_answer p q
