@@ -1,9 +1,13 @@
 // The names of a case's strands, read into two tables that other fields share: one of bytes, one of numbers.
 use case_field_reads::at_most;
 use case_lists::text_into;
-use case_parts::{bytes_between, counted, is_read, numbers_between, text_between, three_read};
+use case_parts::{
+    bytes_between, bytes_from, counted, is_read, numbers_between, numbers_from, text_between,
+    three_read,
+};
 use case_text::{field, has_field};
-use name_strands::NUMERALS;
+use name_strands::{NUMERALS, StrandNames};
+use text_entries::Names;
 
 // Whether the names could be read, and how long each part is.
 #[derive(Clone, Copy)]
@@ -13,6 +17,20 @@ pub(crate) struct NamesRead {
     pub(crate) present: usize,
     pub(crate) numerals: usize,
     pub(crate) offsets: usize,
+}
+
+impl NamesRead {
+    // The names in the two tables.
+    pub(crate) fn names<'a>(&self, bytes: &'a [u8], numbers: &'a [usize]) -> StrandNames<'a> {
+        StrandNames {
+            names: Names {
+                text: bytes_from(bytes, 0, self.text),
+                offsets: numbers_from(numbers, 0, self.offsets),
+                present: bytes_from(bytes, 32800, self.present),
+            },
+            numerals: bytes_from(bytes, 32880, self.numerals),
+        }
+    }
 }
 
 // The numerals of a case; the right ones where it has none.

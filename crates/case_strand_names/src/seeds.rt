@@ -10,8 +10,9 @@ use case_lent::all_small_numbers;
 use case_parts::{
     bytes_from, length_of, numbers_between, numbers_from, read_grid, text_between, three_read,
 };
-use sdc2d::seeds_by_name;
-use units::Check;
+use sdc2d::{SeedList, seeds_by_name};
+use text_entries::Entries;
+use units::Refusal;
 
 // Whether the seeds could be read, and how long each part is.
 #[derive(Clone, Copy)]
@@ -20,6 +21,19 @@ struct SeedsRead {
     places: usize,
     text: usize,
     offsets: usize,
+}
+
+impl SeedsRead {
+    // The seeds in the two tables.
+    fn seeds<'a>(&self, bytes: &'a [u8], numbers: &'a [usize]) -> SeedList<'a> {
+        SeedList {
+            places: numbers_from(numbers, 80, self.places),
+            names: Entries {
+                text: bytes_from(bytes, 16400, self.text),
+                offsets: numbers_from(numbers, 144, self.offsets),
+            },
+        }
+    }
 }
 
 // Their names from 16400 on; the places from 80, the offsets from 144.
@@ -59,12 +73,12 @@ fn read_numbers(line: &[u8], places: usize) -> Asked {
     }
 }
 
-fn put_seeds(out: &mut [u8], answer: Check, kept: bool, seeds: &[u32]) -> usize
+fn put_seeds(out: &mut [u8], answer: Result<(), Refusal>, kept: bool, seeds: &[u32]) -> usize
     ensures { result ≤ length out.old }
 {
     match answer {
-        Check::Refused(r) => refused_with_tables(out, r, kept),
-        Check::Passed => put_small_numbers(out, 0, b"seeds ", seeds),
+        Err(refusal) => refused_with_tables(out, refusal, kept),
+        Ok(()) => put_small_numbers(out, 0, b"seeds ", seeds),
     }
 }
 
@@ -84,13 +98,8 @@ fn seeds_asked(
         asked.rows,
         asked.cols,
         asked.strands,
-        bytes_from(bytes, 0, names.text),
-        numbers_from(numbers, 0, names.offsets),
-        bytes_from(bytes, 32800, names.present),
-        bytes_from(bytes, 32880, names.numerals),
-        numbers_from(numbers, 80, given.places),
-        bytes_from(bytes, 16400, given.text),
-        numbers_from(numbers, 144, given.offsets),
+        &names.names(bytes, numbers),
+        &given.seeds(bytes, numbers),
         seeds,
     );
     put_seeds(out, answer, all_small_numbers(seeds, 0, 7), seeds)

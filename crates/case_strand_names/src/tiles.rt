@@ -6,28 +6,15 @@ use case_answer_lines::{put_value, unreadable};
 use case_answer_lists::put_coded;
 use case_field_reads::{at_most, is_number, number_in};
 use case_fields::number_field;
-use case_parts::{bytes_from, numbers_from};
-use name_tiles::NumberAnswer;
-use sdc2d::{tile_name, tile_name_refusal};
+use sdc2d::{StrandNames, tile_name, tile_name_refusal};
 
 // The name, or the number of the refusal.
-fn put_tile<'a>(
-    strands: usize,
-    text: &'a [u8],
-    offsets: &[usize],
-    present: &[u8],
-    numerals: &'a [u8],
-    tile: u32,
-    out: &mut [u8],
-) -> usize
+fn put_tile(strands: usize, names: &StrandNames<'_>, tile: u32, out: &mut [u8]) -> usize
     ensures { result ≤ length out.old }
 {
-    match tile_name_refusal(strands, text, offsets, present, numerals, tile) {
-        NumberAnswer::Refused(number) => put_value(out, 0, b"refused ", number as usize),
-        NumberAnswer::Shown => {
-            let name = tile_name(strands, text, offsets, present, numerals, tile);
-            put_coded(out, 0, b"name ", name)
-        }
+    match tile_name_refusal(strands, names, tile) {
+        Err(refusal) => put_value(out, 0, b"refused ", refusal.number() as usize),
+        Ok(()) => put_coded(out, 0, b"name ", tile_name(strands, names, tile)),
     }
 }
 
@@ -65,15 +52,7 @@ fn tile_asked(
     ensures { result ≤ length out.old }
 {
     if names.readable && asked.readable {
-        return put_tile(
-            asked.strands,
-            bytes_from(bytes, 0, names.text),
-            numbers_from(numbers, 0, names.offsets),
-            bytes_from(bytes, 32800, names.present),
-            bytes_from(bytes, 32880, names.numerals),
-            asked.tile,
-            out,
-        );
+        return put_tile(asked.strands, &names.names(bytes, numbers), asked.tile, out);
     }
     unreadable(out)
 }
