@@ -8,8 +8,8 @@ use case_field_reads::{at_most, floats_field};
 use case_lent::all_floats;
 use case_parts::{bytes_from, numbers_from};
 use case_text::front;
-use sdc2d::energy_keys;
-use units::Check;
+use sdc2d::{KeyNames, KeyValues, energy_keys};
+use text_entries::Entries;
 
 // Asks with the very matrices that are lent.
 fn keys_into(
@@ -25,23 +25,28 @@ fn keys_into(
 ) -> usize
     ensures { result ≤ length out.old }
 {
-    let answer = energy_keys(
-        bytes_from(bytes, 0, texts.text),
-        numbers_from(numbers, 0, lists.offsets),
-        bytes_from(bytes, 32800, texts.paired),
-        bytes_from(bytes, 32864, texts.kinds),
-        energies,
-        bytes_from(bytes, 16400, texts.sequences),
-        numbers_from(numbers, 128, lists.sequence_offsets),
-        numbers_from(numbers, 192, asked.bases_length),
-        asked.count,
-        delta_g,
-        entropy,
-    );
+    let names = KeyNames {
+        names: Entries {
+            text: bytes_from(bytes, 0, texts.text),
+            offsets: numbers_from(numbers, 0, lists.offsets),
+        },
+        paired: bytes_from(bytes, 32800, texts.paired),
+        bases: numbers_from(numbers, 192, asked.bases_length),
+        count: asked.count,
+    };
+    let values = KeyValues {
+        kinds: bytes_from(bytes, 32864, texts.kinds),
+        numbers: energies,
+        sequences: Entries {
+            text: bytes_from(bytes, 16400, texts.sequences),
+            offsets: numbers_from(numbers, 128, lists.sequence_offsets),
+        },
+    };
+    let answer = energy_keys(&names, &values, delta_g, entropy);
     let kept = all_floats(delta_g, 0, 7.0) && all_floats(entropy, 0, 7.0);
     match answer {
-        Check::Refused(r) => refused_with_tables(out, r, kept),
-        Check::Passed => put_matrices(out, asked.side, delta_g, entropy),
+        Err(refusal) => refused_with_tables(out, refusal, kept),
+        Ok(()) => put_matrices(out, asked.side, delta_g, entropy),
     }
 }
 
