@@ -1,13 +1,12 @@
 -- The rules' starred cases, all of them, as one table of what the definitions give and what the rules print: sequences first, then layouts. Assumes nothing.
-use Rattle.std.specs.Prelude.{ℕ, ◌*◌, Bool, true, false, List, [], ◌∷◌, ◌++◌, map, pos, Float, length, replicate}
+use Rattle.std.specs.Prelude.{ℕ, ◌*◌, Bool, true, false, List, [], ◌∷◌, ◌++◌, map, Result, Ok, Err, pos, Float, length, replicate}
 use Rattle.std.specs.Float.{nan, inf, fin, binary64}
 use Rattle.std.specs.Float.Ieee.{of_bits}
-use Rattle.units.specs.declared.EnergyAnswer.{EnergyAnswer}
-use Rattle.units.specs.declared.EnergyAnswer.TheVariants.{Energy, Refused}
+use Rattle.units.specs.declared.refusal.Refusal.{Refusal}
+use Rattle.units.specs.declared.refusal.Refusal.TheVariants.{NoLegalStrand}
 use Rattle.units.specs.Decimals.{plus, minus}
-use Rattle.units.specs.Refusals.{refusal}
 use Rattle.dna_calls.specs.Starred.{Outcome as SequencesOutcome, Case as SequencesCase, starred as sequences_starred}
-use Rattle.bay_system.specs.System.{System, system}
+use Rattle.bay_system.specs.System.{System}
 use Rattle.bay_lists.specs.Lists.{Constraints, lists, absent}
 use Rattle.bay_legal_at.specs.Legal.{is_legal}
 use Rattle.run_least_layout.specs.Run.{run_need}
@@ -18,7 +17,7 @@ pub data Outcome : Type 0 where
   sequence : SequencesOutcome → Outcome
   laid : List ℕ → Outcome
   held : List Float → Outcome
-  answered : EnergyAnswer → Outcome
+  answered : Result Float Refusal → Outcome
   legal : Bool → Outcome
   needs : ℕ → Outcome
 
@@ -32,16 +31,28 @@ case given printed = record { given = given; printed = printed }
 -- 1×1 at 310.15 K: strand 1, whose bottom glue meets the bay's with this ΔG and ΔS
 abbrev one_bay : (dg ds log : Float) → (seeds : List ℕ) → System
 one_bay dg ds log seeds =
-    system (record { rows = 1; cols = 1; strands = 2; glues = 2; kelvin = plus 31015 100 })
-    (0 ∷ 0 ∷ 0 ∷ 0 ∷ 0 ∷ 0 ∷ 0 ∷ 0 ∷ 0 ∷ 1 ∷ []) (1 ∷ [])
-    (plus 0 1 ∷ plus 0 1 ∷ plus 0 1 ∷ dg ∷ []) (plus 0 1 ∷ plus 0 1 ∷ plus 0 1 ∷ ds ∷ []) (plus 0 1 ∷ log ∷ []) seeds
+    record {
+      sizes = record { rows = 1; cols = 1; strands = 2; glues = 2; kelvin = plus 31015 100 };
+      strand_glues = 0 ∷ 0 ∷ 0 ∷ 0 ∷ 0 ∷ 0 ∷ 0 ∷ 0 ∷ 0 ∷ 1 ∷ [];
+      scaffold = 1 ∷ [];
+      delta_g = plus 0 1 ∷ plus 0 1 ∷ plus 0 1 ∷ dg ∷ [];
+      entropy = plus 0 1 ∷ plus 0 1 ∷ plus 0 1 ∷ ds ∷ [];
+      logs = plus 0 1 ∷ log ∷ [];
+      seeds = seeds;
+    }
 
 -- a grid on whose every bay strands 0 and 1 are legal
 abbrev two_strands : (rows cols : ℕ) → System
 two_strands rows cols =
-    system (record { rows = rows; cols = cols; strands = 2; glues = 2; kelvin = plus 31015 100 })
-    (0 ∷ 0 ∷ 0 ∷ 0 ∷ 0 ∷ 0 ∷ 0 ∷ 0 ∷ 0 ∷ 1 ∷ []) (replicate (rows * cols) 1)
-    (plus 0 1 ∷ plus 0 1 ∷ plus 0 1 ∷ minus 1 1 ∷ []) (plus 0 1 ∷ plus 0 1 ∷ plus 0 1 ∷ plus 0 1 ∷ []) (plus 0 1 ∷ plus 0 1 ∷ []) []
+    record {
+      sizes = record { rows = rows; cols = cols; strands = 2; glues = 2; kelvin = plus 31015 100 };
+      strand_glues = 0 ∷ 0 ∷ 0 ∷ 0 ∷ 0 ∷ 0 ∷ 0 ∷ 0 ∷ 0 ∷ 1 ∷ [];
+      scaffold = replicate (rows * cols) 1;
+      delta_g = plus 0 1 ∷ plus 0 1 ∷ plus 0 1 ∷ minus 1 1 ∷ [];
+      entropy = plus 0 1 ∷ plus 0 1 ∷ plus 0 1 ∷ plus 0 1 ∷ [];
+      logs = plus 0 1 ∷ plus 0 1 ∷ [];
+      seeds = [];
+    }
 
 abbrev free : Constraints
 free = absent
@@ -64,17 +75,17 @@ energies_of s c = held (energies_after s c 1 2 (nan ∷ nan ∷ []))
 unfoldable pub layouts : List Case
 layouts =
     case (layout_of (one_bay (plus 1 1) (plus 0 1) (plus 0 1) []) free) (laid (0 ∷ []))
-    ∷ case (answer_of (one_bay (plus 1 1) (plus 0 1) (plus 0 1) []) free) (answered (Energy (of_bits binary64 0)))
+    ∷ case (answer_of (one_bay (plus 1 1) (plus 0 1) (plus 0 1) []) free) (answered (Ok (of_bits binary64 0)))
     ∷ case (layout_of (one_bay (minus 1 1) (plus 0 1) (plus 0 1) []) free) (laid (1 ∷ []))
-    ∷ case (answer_of (one_bay (minus 1 1) (plus 0 1) (plus 0 1) []) free) (answered (Energy (fin true 1 (pos 0))))
+    ∷ case (answer_of (one_bay (minus 1 1) (plus 0 1) (plus 0 1) []) free) (answered (Ok (fin true 1 (pos 0))))
     ∷ case (legal (is_legal (one_bay (plus 0 1) (plus 1 1) (plus 0 1) []) free 0 1)) (legal true)
     ∷ case (energies_of (one_bay (plus 0 1) (plus 1 1) (plus 0 1) []) free) (held (of_bits binary64 0 ∷ of_bits binary64 0 ∷ []))
     ∷ case (layout_of (one_bay (plus 0 1) (plus 1 1) (plus 0 1) []) free) (laid (0 ∷ []))
-    ∷ case (answer_of (one_bay (plus 1 1) (plus 0 1) (inf true) (0 ∷ 0 ∷ 1 ∷ [])) free) (answered (Energy (inf false)))
+    ∷ case (answer_of (one_bay (plus 1 1) (plus 0 1) (inf true) (0 ∷ 0 ∷ 1 ∷ [])) free) (answered (Ok (inf false)))
     ∷ case (layout_of (one_bay (minus 1 1) (plus 0 1) (plus 0 1) []) (listed [])) (laid (1 ∷ []))
-    ∷ case (answer_of (one_bay (minus 1 1) (plus 0 1) (plus 0 1) []) (listed [])) (answered (Energy (fin true 1 (pos 0))))
+    ∷ case (answer_of (one_bay (minus 1 1) (plus 0 1) (plus 0 1) []) (listed [])) (answered (Ok (fin true 1 (pos 0))))
     ∷ case (layout_of (one_bay (minus 1 1) (plus 0 1) (plus 0 1) []) (listed (0 ∷ []))) (laid (0 ∷ []))
-    ∷ case (answer_of (one_bay (minus 1 1) (plus 0 1) (plus 0 1) []) (listed (99 ∷ []))) (answered (Refused (refusal 7 (0 ∷ []))))
+    ∷ case (answer_of (one_bay (minus 1 1) (plus 0 1) (plus 0 1) []) (listed (99 ∷ []))) (answered (Err (NoLegalStrand 0)))
     ∷ case (layout_of (one_bay (minus 1 1) (plus 0 1) (plus 0 1) []) (listed (99 ∷ []))) (laid (7 ∷ []))
     ∷ case (needs (run_need (two_strands 2 2) free)) (needs 14)
     ∷ case (needs (run_need (two_strands 2 3) free)) (needs 22)
