@@ -12,6 +12,7 @@ use lib.ListN.{length, get_or, set, take, length-set}
 use lib.Seq.{ext_get_or, take-set-lt, get_or-set_same, get_or-set_other}
 use borrow.Author.Tests.{eqb-true, eq-eqb, ne_eqb}
 use Rattle.units.specs.Limits.{most_strands}
+use Rattle.units.specs.declared.refusal.Refusal.TheVariants.{NoLegalStrand}
 use Rattle.units.specs.Refusals.{passes, refuses}
 use Rattle.units.proofs.Tests.{both, and_false}
 use Rattle.sets.specs.Set.{has, word}
@@ -111,7 +112,7 @@ module _ (s : System) (c : Constraints) (chosen strand : ℕ) where
         let rows = s.sizes.rows in
         let cols = s.sizes.cols in
         let k = first_empty rows cols sets 0 (rows * cols) in
-        (empty_verdict rows cols sets ≡ refuses 7 (bay_at rows cols k ∷ [])) × FirstWithout rows cols sets 0 k
+        (empty_verdict rows cols sets ≡ refuses (NoLegalStrand (bay_at rows cols k))) × FirstWithout rows cols sets 0 k
     seven_there e = seven s.sizes.rows s.sizes.cols (chosen_sets s c chosen strand) chosen inside (nothing_left e)
 
 -- 7 under a choice comes exactly where the bay that it names is the first one in scan order that has no strand left

@@ -9,9 +9,8 @@ use lib.Dec.{eqb}
 use lib.Ieee.{Float, le}
 use lib.ListN.{length, get_or}
 use borrow.Author.Tests.{eqb-true, eq-eqb}
-use Rattle.units.specs.declared.EnergyAnswer.TheVariants.{Energy}
-use Rattle.units.specs.Answers.{energy_answer}
-use Rattle.units.specs.Refusals.{Verdict, passes, refuses, ◌▷◌, if_passes}
+use Rattle.std.specs.Prelude.{Ok, Err}
+use Rattle.units.specs.Refusals.{Verdict, passes, refuses, ◌▷◌, if_passes, answer}
 use Rattle.units.proofs.Verdicts.{no_fault, first_passes, rest_passes}
 use Rattle.units.proofs.Tests.{both}
 use Rattle.bay_system.specs.System.{System, bays}
@@ -67,9 +66,9 @@ module _ (s : System) (c : Constraints) (bay strand : ℕ) (on : bay < bays s.si
       each b h (no n) = elsewhere s c bay strand b n (get_or l b 0) ∙ k.elsewhere b h n
 
 -- an energy is answered only where every test passed
-answered : (v : Verdict) (value energy : Float) → energy_answer v value ≡ Energy energy → (v ≡ passes) × (energy ≡ value)
-answered passes value energy e = (refl, cc)
-answered (refuses number values) value energy e = let z : ◌≡◌ {A = ℕ} 0 1 = cc in absurd (omega arith)
+answered : (v : Verdict) (value energy : Float) → answer v value ≡ Ok energy → (v ≡ passes) × (energy ≡ value)
+answered (Ok tt) value energy e = (refl, cc)
+answered (Err r) value energy e = cc
 
 module _ (s : System) (c : Constraints) (bay strand energies notes : ℕ) (old : List ℕ) (energy : Float) where
   abbrev may : ℕ → ℕ → Bool
@@ -87,12 +86,12 @@ module _ (s : System) (c : Constraints) (bay strand energies notes : ℕ) (old :
   abbrev first : Verdict
   first = early_by choice s may energies notes
 
-  pub the_price_is_right : price_answer s c bay strand (length old) energies notes ≡ Energy energy
+  pub the_price_is_right : price_answer s c bay strand (length old) energies notes ≡ Ok energy
       → PriceTheorem s c bay strand energy (price_layout s c bay strand energies notes old)
   the_price_is_right e =
       let a = answered (price_verdict s c bay strand (length old) energies notes) (in_kcal (least_sum_by s may) s.sizes.kelvin) energy e in
       let early = first_passes first (sum_by s may) a.0 in
-      let good = no_fault (is_bad (least_sum_by s may)) 10 [] (rest_passes first (sum_by s may) a.0) in
+      let good = no_fault (is_bad (least_sum_by s may)) _ (rest_passes first (sum_by s may) a.0) in
       let chosen = first_passes choice (empty ▷ room) early in
       let on = inside s (length old) c bay chosen in
       let none_empty = first_passes empty room (rest_passes choice (empty ▷ room) early) in

@@ -3,14 +3,14 @@
 
 ghost use Rattle.std.specs.Prelude.{◌≡◌, length};
 ghost use Rattle.units.specs.Refusals.{number_in};
-ghost use Rattle.bay_system.specs.System.{system};
-ghost use Rattle.bay_lists.specs.Lists.{constraints};
+ghost use Rattle.bay_lists.specs.Lists.{constraints_of};
 ghost use Rattle.run_mfe.specs.Run.{run_verdict, mfe_answer, layout_after, energies_after, notes_after};
-ghost use Rattle.run_export.specs.Numbers.{numbers, sizes, kind_of};
+ghost use Rattle.run_export.specs.Numbers.{numbers, sizes, system, constraints};
 
-use bay_lists::ConstraintKind;
-use bay_system::Sizes;
-use units::EnergyAnswer;
+use bay_lists::Constraints;
+use bay_system::{Sizes, System};
+use run_mfe::mfe_configuration;
+use units::Refusal;
 
 // An answer in numbers: the refusal's number, 0 where there is none, its first value, and the energy in kcal/mol, 0.0 where there is none.
 #[repr(C)]
@@ -22,31 +22,32 @@ pub struct RunNumbers {
 }
 
 // An answer as its numbers.
-fn numbers(answer: EnergyAnswer) -> RunNumbers
+fn numbers(answer: Result<f64, Refusal>) -> RunNumbers
     ensures { result ≡ numbers answer }
 {
     match answer {
-        EnergyAnswer::Energy(energy) => RunNumbers {
+        Ok(energy) => RunNumbers {
             number: 0,
             first: 0,
             energy,
         },
-        EnergyAnswer::Refused(r) => RunNumbers {
-            number: r.number,
-            first: r.first,
+        Err(r) => RunNumbers {
+            number: r.number(),
+            first: r.first(),
             energy: 0.0,
         },
     }
 }
 
-// The kind of constraints by a caller's number, one byte as C's bool is: 0 for absent ones, 1 for lists. Any other number is read as 1, as C reads a bool.
-fn kind_of(constrained: u8) -> ConstraintKind
-    ensures { result ≡ kind_of constrained }
+// Constraints by a caller's number, one byte as C's bool is: 0 for absent ones, 1 for lists. Any other number is read as 1, as C reads a bool.
+fn constraints<'a>(constrained: u8, offsets: &'a [usize], tiles: &'a [u32]) -> Constraints<'a>
+    ensures { constraints_of result ≡ constraints constrained offsets.now tiles.now }
 {
     if constrained == 0 {
-        return ConstraintKind::Absent;
+        Constraints::Absent
+    } else {
+        Constraints::Lists { offsets, tiles }
     }
-    ConstraintKind::Lists
 }
 
 // The layout of least energy, its energy and its ledger, as `sdc2d_thermo::mfe_configuration` gives them.
@@ -71,45 +72,40 @@ pub fn run_export_mfe_configuration(
 ) -> RunNumbers
     ensures number { let s = system (sizes rows cols strands glues kelvin) strand_glues.now scaffold.now delta_g.now
         entropy.now logs.now seeds.now in
-        let c = constraints (kind_of constrained) offsets.now tiles.now in
+        let c = constraints constrained offsets.now tiles.now in
         result.number ≡ number_in (run_verdict s c (length layout.old) (length energies.old) (length leaving.old)) }
     ensures answer { let s = system (sizes rows cols strands glues kelvin) strand_glues.now scaffold.now delta_g.now
         entropy.now logs.now seeds.now in
-        let c = constraints (kind_of constrained) offsets.now tiles.now in
+        let c = constraints constrained offsets.now tiles.now in
         result ≡ numbers (mfe_answer s c (length layout.old) (length energies.old) (length leaving.old)) }
     ensures layout { let s = system (sizes rows cols strands glues kelvin) strand_glues.now scaffold.now delta_g.now
         entropy.now logs.now seeds.now in
-        let c = constraints (kind_of constrained) offsets.now tiles.now in
+        let c = constraints constrained offsets.now tiles.now in
         layout.new ≡ layout_after s c (length energies.old) (length leaving.old) layout.old }
     ensures energies { let s = system (sizes rows cols strands glues kelvin) strand_glues.now scaffold.now delta_g.now
         entropy.now logs.now seeds.now in
-        let c = constraints (kind_of constrained) offsets.now tiles.now in
+        let c = constraints constrained offsets.now tiles.now in
         energies.new ≡ energies_after s c (length layout.old) (length leaving.old) energies.old }
     ensures leaving { let s = system (sizes rows cols strands glues kelvin) strand_glues.now scaffold.now delta_g.now
         entropy.now logs.now seeds.now in
-        let c = constraints (kind_of constrained) offsets.now tiles.now in
+        let c = constraints constrained offsets.now tiles.now in
         leaving.new ≡ notes_after s c (length layout.old) (length energies.old) leaving.old }
 {
-    let z = Sizes {
-        rows,
-        cols,
-        strands,
-        glues,
-        kelvin,
-    };
-    numbers(run_mfe::mfe_configuration(
-        z,
+    let system = System {
+        sizes: Sizes {
+            rows,
+            cols,
+            strands,
+            glues,
+            kelvin,
+        },
         strand_glues,
         scaffold,
         delta_g,
         entropy,
         logs,
         seeds,
-        kind_of(constrained),
-        offsets,
-        tiles,
-        layout,
-        energies,
-        leaving,
-    ))
+    };
+    let constraints = constraints(constrained, offsets, tiles);
+    numbers(mfe_configuration(&system, &constraints, layout, energies, leaving))
 }

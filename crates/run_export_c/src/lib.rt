@@ -3,10 +3,8 @@
 
 ghost use Rattle.std.specs.Prelude.{◌≡◌, length};
 ghost use Rattle.units.specs.Refusals.{number_in};
-ghost use Rattle.bay_system.specs.System.{system};
-ghost use Rattle.bay_lists.specs.Lists.{constraints};
 ghost use Rattle.run_mfe.specs.Run.{run_verdict, mfe_answer, layout_after, energies_after, notes_after};
-ghost use Rattle.run_export.specs.Numbers.{numbers, sizes, kind_of};
+ghost use Rattle.run_export.specs.Numbers.{numbers, sizes, system, constraints};
 
 use run_export::RunNumbers;
 
@@ -33,23 +31,23 @@ pub extern "C" fn run_export_mfe_configuration(
 ) -> RunNumbers
     ensures number { let s = system (sizes rows cols strands glues kelvin) strand_glues.now scaffold.now delta_g.now
         entropy.now logs.now seeds.now in
-        let c = constraints (kind_of constrained) offsets.now tiles.now in
+        let c = constraints constrained offsets.now tiles.now in
         result.number ≡ number_in (run_verdict s c (length layout.old) (length energies.old) (length leaving.old)) }
     ensures answer { let s = system (sizes rows cols strands glues kelvin) strand_glues.now scaffold.now delta_g.now
         entropy.now logs.now seeds.now in
-        let c = constraints (kind_of constrained) offsets.now tiles.now in
+        let c = constraints constrained offsets.now tiles.now in
         result ≡ numbers (mfe_answer s c (length layout.old) (length energies.old) (length leaving.old)) }
     ensures layout { let s = system (sizes rows cols strands glues kelvin) strand_glues.now scaffold.now delta_g.now
         entropy.now logs.now seeds.now in
-        let c = constraints (kind_of constrained) offsets.now tiles.now in
+        let c = constraints constrained offsets.now tiles.now in
         layout.new ≡ layout_after s c (length energies.old) (length leaving.old) layout.old }
     ensures energies { let s = system (sizes rows cols strands glues kelvin) strand_glues.now scaffold.now delta_g.now
         entropy.now logs.now seeds.now in
-        let c = constraints (kind_of constrained) offsets.now tiles.now in
+        let c = constraints constrained offsets.now tiles.now in
         energies.new ≡ energies_after s c (length layout.old) (length leaving.old) energies.old }
     ensures leaving { let s = system (sizes rows cols strands glues kelvin) strand_glues.now scaffold.now delta_g.now
         entropy.now logs.now seeds.now in
-        let c = constraints (kind_of constrained) offsets.now tiles.now in
+        let c = constraints constrained offsets.now tiles.now in
         leaving.new ≡ notes_after s c (length layout.old) (length energies.old) leaving.old }
 {
     run_export::run_export_mfe_configuration(

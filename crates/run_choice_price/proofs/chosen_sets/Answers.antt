@@ -1,12 +1,11 @@
 -- `run_choice_price::chosen_sets` meets its contract: the sets are written, and one is written anew. Assumes nothing.
 use mathlib.Core.Path.{◌∙◌}
-use mathlib.Core.List.{[]}
 use native.Mathlib.Nat.{mul-le-mul}
 use native.Mathlib.Omega.{arith}
 use lib.ListN.{length}
 use lib.Seq.{drop-set-lt}
-use Rattle.bay_system.specs.System.{system}
-use Rattle.bay_lists.specs.Lists.{by_offsets}
+use Rattle.bay_system.specs.System.{system_of}
+use Rattle.bay_lists.specs.Lists.{constraints_of}
 use Rattle.bay_legal_at.specs.Legal.{is_legal}
 use Rattle.bay_legal.proofs.Fronts.{front_fits, length_sets}
 use Rattle.run_choice_price.specs.Choice.{chosen_legal}
@@ -25,17 +24,16 @@ offset_bounds-sets-bay c = let g = c.requires.given in
     omega (arith, mul-le-mul g.few_rows g.few_cols, g.bay_count, c.requires.bay_in_bounds)
 
 pub bounds-sets-bay : goal.bounds-sets-bay
-bounds-sets-bay c = let a = c.args in
-    let s = system a.z a.strand_glues.now a.scaffold.now a.delta_g.now a.entropy.now [] a.seeds.now in
-    let count = length a.scaffold.now in
-    let room = front_fits count c.fill_sets.new.sets c.fill_sets.ensures.sets (length_sets (is_legal s (by_offsets a.offsets.now a.tiles.now)) count) in
+bounds-sets-bay c = let s = system_of c.args.system.now in
+    let count = length s.scaffold in
+    let room = front_fits count c.fill_sets.new.sets c.fill_sets.ensures.sets (length_sets (is_legal s (constraints_of c.args.constraints.now)) count) in
     omega (arith, room, c.requires.bay_in_bounds)
 
 pub returns : goal.returns
 returns c = let a = c.args in
-    let s = system a.z a.strand_glues.now a.scaffold.now a.delta_g.now a.entropy.now [] a.seeds.now in
-    let lists = by_offsets a.offsets.now a.tiles.now in
-    let count = length a.scaffold.now in
+    let s = system_of a.system.now in
+    let lists = constraints_of a.constraints.now in
+    let count = length s.scaffold in
     record {
       sets =
           table_changed (is_legal s lists) (chosen_legal s lists a.bay a.strand) count a.bay c.both.result c.requires.bay_in_bounds

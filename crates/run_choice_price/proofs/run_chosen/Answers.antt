@@ -2,10 +2,9 @@
 use Prim.Native.Nat.{ℕ, ◌<◌}
 use mathlib.Core.Path.{sym, subst}
 use lib.ListN.{length}
-use Rattle.bay_system.specs.System.{system}
-use Rattle.bay_lists.specs.Lists.{Constraints, constraints}
-use Rattle.bay_given.proofs.Passed.{is_fine, few_bays, as_read, asks}
-use Rattle.run_mfe.specs.RunBy.{SetsBy}
+use Rattle.bay_system.specs.System.{system_of}
+use Rattle.bay_lists.specs.Lists.{constraints_of}
+use Rattle.bay_given.proofs.Passed.{is_fine, few_bays, asked}
 use Rattle.run_mfe.proofs.Grids.{ready}
 use Rattle.run_choice_price.specs.Choice.{chosen_legal}
 use Rattle.run_choice_price.proofs.Choices.{given_passes, inside}
@@ -13,12 +12,12 @@ use Rattle.run_choice_price.proofs.run_chosen.Goals as goal
 
 pub chosen_sets-requires : goal.chosen_sets-requires
 chosen_sets-requires c = let a = c.args in
-    let s = system a.z a.strand_glues.now a.scaffold.now a.delta_g.now a.entropy.now a.logs.now a.seeds.now in
-    let lists = constraints a.kind a.offsets.now a.tiles.now in
+    let s = system_of a.system.now in
+    let lists = constraints_of a.constraints.now in
     let lent = length a.layout.now in
     let given = given_passes s lent lists a.bay c.requires in
     record {
-      given = asks s lent a.kind a.offsets.now a.tiles.now given c.offsets_read.ensures;
+      given = asked s lent lists given;
       scaffold_in_bounds = few_bays s lent lists given;
       bay_in_bounds = subst (λ (n : ℕ). a.bay < n) (sym (is_fine s lent lists given).shape.scaffold) (inside s lent lists a.bay c.requires);
     }
@@ -26,24 +25,14 @@ chosen_sets-requires c = let a = c.args in
 -- the table has the sets of what may lie on each bay by the constraints that were lent
 pub run_found-requires : goal.run_found-requires
 run_found-requires c = let a = c.args in
-    let s = system a.z a.strand_glues.now a.scaffold.now a.delta_g.now a.entropy.now a.logs.now a.seeds.now in
-    let lists = constraints a.kind a.offsets.now a.tiles.now in
+    let s = system_of a.system.now in
+    let lists = constraints_of a.constraints.now in
     let lent = length a.layout.now in
-    let given = given_passes s lent lists a.bay c.requires in
     record {
-      ready = ready s lent lists given;
-      some_sets = (
-        chosen_legal s lists a.bay a.strand,
-        subst (λ (l : Constraints). SetsBy (chosen_legal s l a.bay a.strand) (length a.scaffold.now) c.chosen_sets.new.sets)
-            (as_read s lent a.kind a.offsets.now a.tiles.now given c.offsets_read.ensures) c.chosen_sets.ensures.sets,
-      );
+      ready = ready s lent lists (given_passes s lent lists a.bay c.requires);
+      some_sets = (chosen_legal s lists a.bay a.strand, c.chosen_sets.ensures.sets);
     }
 
 pub returns : goal.returns
 returns c = let a = c.args in
-    let s = system a.z a.strand_glues.now a.scaffold.now a.delta_g.now a.entropy.now a.logs.now a.seeds.now in
-    let lists = constraints a.kind a.offsets.now a.tiles.now in
-    let lent = length a.layout.now in
-    c.run_found.ensures (chosen_legal s lists a.bay a.strand)
-    (subst (λ (l : Constraints). SetsBy (chosen_legal s l a.bay a.strand) (length a.scaffold.now) c.chosen_sets.new.sets)
-    (as_read s lent a.kind a.offsets.now a.tiles.now (given_passes s lent lists a.bay c.requires) c.offsets_read.ensures) c.chosen_sets.ensures.sets)
+    c.run_found.ensures (chosen_legal (system_of a.system.now) (constraints_of a.constraints.now) a.bay a.strand) c.chosen_sets.ensures.sets
