@@ -1,4 +1,3 @@
 pub mod Examples
 pub mod Parts
 pub mod Sums
-pub mod Turns

@@ -2,8 +2,8 @@
 use Prim.Native.Nat.{ℕ, zero, suc, ◌+◌, ◌-◌, ◌*◌, ◌≤◌, ◌<◌}
 use mathlib.Core.List.{List, [], ◌∷◌, ◌++◌}
 use mathlib.Core.Path.{◌≡◌, refl}
-use native.Mathlib.Numerals.{add-one, sub-one}
-use native.Mathlib.Nat.{suc-mul}
+use native.Mathlib.Numerals.{add-one}
+use native.Mathlib.Nat.{add-zero, sub-zero, zero-mul, suc-mul}
 use native.Mathlib.Omega.{arith}
 use lib.ListN.{length, get_or, drop, drop_of_length-le}
 use lib.Seq.{drop-cons}
@@ -11,17 +11,22 @@ use Rattle.text_put.specs.Puts.{number_text}
 use Rattle.bay_lists.specs.Lists.{Constraints, list_of}
 use Rattle.sheet_text.specs.Written.{gap, spaced, separator, row_text, sheet_text}
 
--- ---- a number and a separator
+-- ---- what stands between numbers, and between fields
 
-pub first_number : (i n : ℕ) → i ≡ 0 → number_text n ≡ gap i ++ number_text n
+pub first_gap : (i : ℕ) → i ≡ 0 → [] ≡ gap i
 unfolding gap
-first_number zero n e = refl
-first_number (suc i) n e = absurd (omega arith)
+first_gap zero e = refl
+first_gap (suc i) e = absurd (omega arith)
 
-pub later_number : (i n : ℕ) → (i ≡ 0 → ⊥) → (32 ∷ []) ++ number_text n ≡ gap i ++ number_text n
+pub later_gap : (i : ℕ) → (i ≡ 0 → ⊥) → 32 ∷ [] ≡ gap i
 unfolding gap
-later_number zero n h = absurd (h refl)
-later_number (suc i) n h = refl
+later_gap zero h = absurd (h refl)
+later_gap (suc i) h = refl
+
+pub gap_small : (i : ℕ) → length (gap i) ≤ 1
+unfolding gap
+gap_small zero = omega arith
+gap_small (suc i) = omega arith
 
 pub last_separator : (left : ℕ) → left ≡ 0 → 13 ∷ 10 ∷ [] ≡ separator left
 unfolding separator
@@ -43,38 +48,42 @@ pub field_end : (list : List ℕ) (i : ℕ) → length list ≤ i → spaced i (
 unfolding spaced
 field_end list i h = rw (drop_of_length-le list h)
 
--- ---- a record, and the sheet
+-- ---- a record, by its columns, and the sheet, by its rows
 
-pub record-next : (c : Constraints) (bay left : ℕ) → 0 < left → row_text c bay left ≡ spaced 0 (list_of c bay) ++ separator (left - 1) ++ row_text c (bay + 1) (left - 1)
+-- the fields of a record from a column on
+abbrev pub fields_from : Constraints → (first columns column : ℕ) → List ℕ
+fields_from c first columns column = row_text c (first + column) (columns - column)
+
+pub fields_all : (c : Constraints) (first columns : ℕ) → fields_from c first columns 0 ≡ row_text c first columns
+fields_all c first columns = rw (add-zero first, sub-zero columns)
+
+pub fields_next : (c : Constraints) (first columns column : ℕ) → column < columns
+    → fields_from c first columns column ≡ spaced 0 (list_of c (first + column)) ++ separator (columns - column - 1) ++ fields_from c first columns (column + 1)
 unfolding row_text
-record-next c bay zero h = absurd (omega arith)
-record-next c bay (suc left) h = rw (sub-one (suc left))
+fields_next c first columns column h =
+    let one_more : columns - column ≡ suc (columns - (column + 1)) = omega arith in
+    let left : columns - column - 1 ≡ columns - (column + 1) = omega arith in
+    let on : first + (column + 1) ≡ first + column + 1 = omega arith in
+    rw (left, one_more, on)
 
-pub record-end : (c : Constraints) (bay left : ℕ) → left ≤ 0 → row_text c bay left ≡ []
+pub fields_none : (c : Constraints) (first columns column : ℕ) → columns ≤ column → fields_from c first columns column ≡ []
 unfolding row_text
-record-end c bay zero h = refl
-record-end c bay (suc left) h = absurd (omega arith)
+fields_none c first columns column h = let none : columns - column ≡ 0 = omega arith in rw none
 
-pub sheet_next : (c : Constraints) (columns bay left : ℕ) → 0 < left → sheet_text c columns bay left ≡ row_text c bay columns ++ sheet_text c columns (bay + columns) (left - 1)
+-- the records of a sheet from a row on
+abbrev pub rows_from : Constraints → (columns rows row : ℕ) → List ℕ
+rows_from c columns rows row = sheet_text c columns (row * columns) (rows - row)
+
+pub rows_all : (c : Constraints) (columns rows : ℕ) → rows_from c columns rows 0 ≡ sheet_text c columns 0 rows
+rows_all c columns rows = rw (zero-mul columns, sub-zero rows)
+
+pub rows_next : (c : Constraints) (columns rows row : ℕ) → row < rows → rows_from c columns rows row ≡ row_text c (row * columns) columns ++ rows_from c columns rows (row + 1)
 unfolding sheet_text
-sheet_next c columns bay zero h = absurd (omega arith)
-sheet_next c columns bay (suc left) h = rw (sub-one (suc left))
+rows_next c columns rows row h =
+    let one_more : rows - row ≡ suc (rows - (row + 1)) = omega arith in
+    let on : (row + 1) * columns ≡ row * columns + columns = rw add-one (suc-mul row columns) in
+    rw (one_more, on)
 
-pub sheet_end : (c : Constraints) (columns bay left : ℕ) → left ≤ 0 → sheet_text c columns bay left ≡ []
+pub rows_none : (c : Constraints) (columns rows row : ℕ) → rows ≤ row → rows_from c columns rows row ≡ []
 unfolding sheet_text
-sheet_end c columns bay zero h = refl
-sheet_end c columns bay (suc left) h = absurd (omega arith)
-
--- ---- the bays of the rows that are left
-
-rows_next : (columns left : ℕ) → 0 < left → left * columns ≡ columns + (left - 1) * columns
-rows_next columns zero h = absurd (omega arith)
-rows_next columns (suc left) h = rw (sub-one (suc left), suc-mul left columns) (omega arith)
-
-module _ (rows columns bay left : ℕ) (e : bay + left * columns ≡ rows * columns) (h : 0 < left) where
-  -- the bays of the next row are among the grid's
-  pub row_within : bay + columns ≤ rows * columns
-  row_within = let n = rows_next columns left h in omega arith
-
-  pub rows_left : bay + columns + (left - 1) * columns ≡ rows * columns
-  rows_left = let n = rows_next columns left h in omega arith
+rows_none c columns rows row h = let none : rows - row ≡ 0 = omega arith in rw none

@@ -1,10 +1,10 @@
--- `put_record` meets its contract: the invariant is that what is left of the record ends it. Assumes nothing.
-use Rattle.bay_lists.specs.Lists.{lists}
-use Rattle.sheet_text.proofs.Turns.{Row}
+-- `sheet_text::put_record` meets its contract: the invariant is that the fields that are left end the record. Assumes nothing.
+use Rattle.text_put.proofs.Putting.{Ending}
+use Rattle.bay_lists.specs.Lists.{constraints_of}
+use Rattle.sheet_text.specs.Written.{row_text}
+use Rattle.sheet_text.proofs.Parts.{fields_from}
 use Rattle.sheet_text.proofs.put_record.Given as goal
 
-abbrev pub invariant-loop-left : goal.invariant-loop-left
-invariant-loop-left l = Row (lists l.offsets l.tiles) l.first l.columns l.initial.text l.at l.text l.next l.bay l.left
-
-abbrev pub decreases-loop-left : goal.decreases-loop-left
-decreases-loop-left l = l.left
+abbrev pub invariant-loop-column : goal.invariant-loop-column
+invariant-loop-column l =
+    let c = constraints_of l.lists in Ending l.initial.text l.at (row_text c l.first l.columns) (fields_from c l.first l.columns l.column) l.text l.next
