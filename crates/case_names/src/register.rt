@@ -10,12 +10,12 @@ use case_parts::{
 };
 use case_text::front;
 use sdc2d::register;
-use units::{BASE_NUMBERS, CountAnswer, MOST_BASES};
+use text_entries::Names;
+use units::{BASE_NUMBERS, MOST_BASES};
 
-// The numbers of a case, the lengths of the lent tables among them, and whether all could be read and there is room.
+// The numbers of a case, the lengths of the lent tables among them.
 #[derive(Clone, Copy)]
 struct Asked {
-    readable: bool,
     rows: usize,
     cols: usize,
     strands: usize,
@@ -29,23 +29,26 @@ fn all_fit(glues: usize, scaffold: usize, bases: usize) -> bool {
     glues <= 330 && scaffold <= 1089 && bases <= 256
 }
 
-// A count of strands past the limit is taken for 66, which is refused whatever is lent.
-fn read_numbers(line: &[u8]) -> Asked {
+// The numbers, if all could be read and there is room. A count of strands past the limit is taken for 66, which is refused
+// whatever is lent.
+fn read_numbers(line: &[u8]) -> Option<Asked> {
     let grid = read_grid(line);
     let strands = number_field(line, b"strands");
     let most = at_most(number_in(strands), 66);
     let glues = length_of(line, b"glues_length", most * 5);
     let scaffold = length_of(line, b"scaffold_length", bays_of(grid.rows, grid.cols));
     let bases = length_of(line, b"bases_length", BASE_NUMBERS);
-    Asked {
-        readable: grid.readable && is_number(strands) && all_fit(glues, scaffold, bases),
+    if !(grid.readable && is_number(strands) && all_fit(glues, scaffold, bases)) {
+        return None;
+    }
+    Some(Asked {
         rows: grid.rows,
         cols: grid.cols,
         strands: number_in(strands),
         glues,
         scaffold,
         bases,
-    }
+    })
 }
 
 // The numbers of a list of bases; what stands behind them is 0.
@@ -76,9 +79,7 @@ fn all_kept(glues: &[u32], scaffold: &[u32], bases: &[usize]) -> bool {
 // Asks with the very tables that are lent.
 fn register_asked(
     asked: Asked,
-    text: &[u8],
-    offsets: &[usize],
-    present: &[u8],
+    names: &Names<'_>,
     glues: &mut [u32],
     scaffold: &mut [u32],
     bases: &mut [usize],
@@ -88,28 +89,20 @@ fn register_asked(
         asked.rows,
         asked.cols,
         asked.strands,
-        text,
-        offsets,
-        present,
+        names,
         glues,
         scaffold,
         bases,
     );
     let kept = all_kept(glues, scaffold, bases);
     match answer {
-        CountAnswer::Refused(r) => refused_with_tables(out, r, kept),
-        CountAnswer::Count(count) => put_registered(out, count, glues, scaffold, bases),
+        Err(r) => refused_with_tables(out, r, kept),
+        Ok(count) => put_registered(out, count, glues, scaffold, bases),
     }
 }
 
 // Lends tables of sevens that are as long as the case says.
-fn register_lent(
-    asked: Asked,
-    text: &[u8],
-    offsets: &[usize],
-    present: &[u8],
-    out: &mut [u8],
-) -> usize {
+fn register_lent(asked: Asked, names: &Names<'_>, out: &mut [u8]) -> usize {
     let mut glues = [7u32; 330];
     let mut scaffold = [7u32; 1089];
     let mut bases = [7usize; 256];
@@ -118,29 +111,12 @@ fn register_lent(
     let b = at_most(asked.bases, 256);
     register_asked(
         asked,
-        text,
-        offsets,
-        present,
+        names,
         &mut glues[0..g],
         &mut scaffold[0..s],
         &mut bases[0..b],
         out,
     )
-}
-
-// Goes on where each part of the case could be read.
-fn register_read(
-    readable: bool,
-    asked: Asked,
-    text: &[u8],
-    offsets: &[usize],
-    present: &[u8],
-    out: &mut [u8],
-) -> usize {
-    if readable && asked.readable {
-        return register_lent(asked, text, offsets, present, out);
-    }
-    unreadable(out)
 }
 
 // The answer to a case: the names and the presence bytes stand in one table, the latter from 16400 on.
@@ -150,12 +126,13 @@ pub(crate) fn answer_register(line: &[u8], out: &mut [u8]) -> usize {
     let present = bytes_between(line, b"present", &mut bytes, 16400, 17800);
     let mut numbers = [0usize; 1400];
     let offsets = numbers_between(line, b"offsets", &mut numbers, 0, 1400);
-    register_read(
-        three_read(text, present, offsets),
-        read_numbers(line),
-        bytes_from(&bytes, 0, text),
-        front(&numbers, offsets),
-        bytes_from(&bytes, 16400, present),
-        out,
-    )
+    let names = Names {
+        text: bytes_from(&bytes, 0, text),
+        offsets: front(&numbers, offsets),
+        present: bytes_from(&bytes, 16400, present),
+    };
+    match read_numbers(line) {
+        Some(asked) if three_read(text, present, offsets) => register_lent(asked, &names, out),
+        _ => unreadable(out),
+    }
 }

@@ -17,3 +17,4 @@ pub use name_seed_checks::SeedList;
 pub use name_seeds::seeds_by_name;
 pub use name_strands::StrandNames;
 pub use name_tiles::{tile_name, tile_name_refusal};
+pub use text_entries::{Entries, Names};
