@@ -8,6 +8,7 @@ use Rattle.plan_list_readers.specs.Reading.{only_zeros}
 use Rattle.bay_legal_at.specs.Legal.{seed_at}
 use Rattle.ledger_rows.specs.Blocks.{tab}
 use Rattle.units.specs.Refusals.{refuses}
+use Rattle.units.specs.declared.refusal.Refusal.TheVariants.{Shape}
 use Rattle.plan_reasons.proofs.Examples.{small, listed}
 use Rattle.plan_marks.specs.Marks.{marks_of, codes_of, place_verdict}
 
@@ -33,8 +34,8 @@ unfolding small listed seed_at names tab decimal round ne
 codes_free = refl
 
 -- three strands and five bays: a slice of two places, and a bay 5, are refused
-short : place_verdict 3 5 2 0 ≡ refuses 5 []
+short : place_verdict 3 5 2 0 ≡ refuses Shape
 short = refl
 
-off_the_grid : place_verdict 3 5 3 5 ≡ refuses 5 []
+off_the_grid : place_verdict 3 5 3 5 ≡ refuses Shape
 off_the_grid = refl

@@ -8,11 +8,10 @@ use lib.Dec.{eqb}
 use lib.ListN.{get_or}
 use borrow.Author.Tests.{eqb-true, eq-eqb}
 use Rattle.units.proofs.Tests.{both}
+use Rattle.std.proofs.Common.{Option, Some, None}
 use Rattle.bay_lists.specs.Lists.{Constraints, list_of, names}
 use Rattle.plan_list_readers.specs.Reading.{only_zeros}
 use Rattle.bay_system.specs.System.{System, bays}
-use Rattle.bay_legal_at.specs.declared.seeds.Seed.{Seed}
-use Rattle.bay_legal_at.specs.declared.seeds.Seed.TheVariants as seed
 use Rattle.bay_legal_at.specs.Legal.{seed_of}
 use Rattle.ledger_rows.proofs.Lists.{tab_at}
 use Rattle.plan_reasons.specs.declared.bays.BayReason.TheVariants.{KeptEmpty, Restricted}
@@ -42,10 +41,10 @@ zeros (x ∷ list) h =
 
 -- ---- from the mark to the seed and the list, and back
 
-marked_3 : (x : Seed) (list : List ℕ) → mark_of (reason_by x list) ≡ 3 → (x ≡ seed.Unseeded) × ((list ≡ [] → ⊥) × (only_zeros list ≡ true))
-marked_3 (seed.Seeded t) list e = absurd (omega arith)
-marked_3 seed.Unseeded [] e = absurd (omega arith)
-marked_3 seed.Unseeded (y ∷ list) e = (refl, ((λ f. let z : ◌≡◌ {A = ℕ} 0 1 = cc in omega arith), at (only_zeros (y ∷ list)) e))
+marked_3 : (x : Option ℕ) (list : List ℕ) → mark_of (reason_by x list) ≡ 3 → (x ≡ None) × ((list ≡ [] → ⊥) × (only_zeros list ≡ true))
+marked_3 (Some t) list e = absurd (omega arith)
+marked_3 None [] e = absurd (omega arith)
+marked_3 None (y ∷ list) e = (refl, ((λ f. let z : ◌≡◌ {A = ℕ} 0 1 = cc in omega arith), at (only_zeros (y ∷ list)) e))
   where
     at : (b : Bool) → mark_of (cond b KeptEmpty Restricted) ≡ 3 → b ≡ true
     at true f = refl
@@ -70,4 +69,4 @@ module _ (s : System) (c : Constraints) (bay : ℕ) (inside : bay < bays s.sizes
 
   pub 3_where_kept : KeptByList s c bay → mark ≡ 3
   3_where_kept k =
-      written ∙ ap (λ (x : Seed). mark_of (reason_by x (list_of c bay))) k.unseeded ∙ mark_3 (list_of c bay) k.some (zeros (list_of c bay) k.zeros)
+      written ∙ ap (λ (x : Option ℕ). mark_of (reason_by x (list_of c bay))) k.unseeded ∙ mark_3 (list_of c bay) k.some (zeros (list_of c bay) k.zeros)

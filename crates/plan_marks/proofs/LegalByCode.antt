@@ -6,12 +6,11 @@ use native.Mathlib.Omega.{arith}
 use lib.Dec.{eqb}
 use lib.ListN.{get_or}
 use borrow.Author.Tests.{lt-ltb}
+use Rattle.std.proofs.Common.{Option, Some, None}
 use Rattle.bay_glues.specs.Tables.{scaffold_glue}
 use Rattle.bay_lists.specs.Lists.{Constraints, list_of, list_allows}
 use Rattle.bay_binding.specs.Binding.{may_lie}
 use Rattle.bay_system.specs.System.{System}
-use Rattle.bay_legal_at.specs.declared.seeds.Seed.{Seed}
-use Rattle.bay_legal_at.specs.declared.seeds.Seed.TheVariants as seed
 use Rattle.bay_legal_at.specs.Legal.{seed_of, is_legal}
 use Rattle.ledger_rows.proofs.Lists.{tab_at}
 use Rattle.plan_reasons.specs.declared.rules.StrandRule.{StrandRule}
@@ -39,11 +38,11 @@ unseeded_most true false = omega arith
 unseeded_most false allowed = omega arith
 
 module _ (s : System) (c : Constraints) (bay strand : ℕ) (known : strand < s.sizes.strands) where
-  abbrev lies : Seed
+  abbrev lies : Option ℕ
   lies = seed_of s bay
 
   abbrev on_glue : Bool
-  on_glue = may_lie s.strand_glues s.delta_g s.entropy s.sizes.glues (scaffold_glue s.scaffold bay) strand
+  on_glue = may_lie s (scaffold_glue s.scaffold bay) strand
 
   abbrev allowed : Bool
   allowed = list_allows (list_of c bay) strand
@@ -67,6 +66,6 @@ module _ (s : System) (c : Constraints) (bay strand : ℕ) (known : strand < s.s
       (sym (written ∙ ap (λ (b : Bool). code_of (cond b (rule_by lies strand on_glue allowed) Unknown)) (lt-ltb strand s.sizes.strands known)))
       (at lies)
     where
-      at : (x : Seed) → code_of (rule_by x strand on_glue allowed) ≤ 3
-      at (seed.Seeded t) = seeded_most (eqb strand t) allowed
-      at seed.Unseeded = unseeded_most on_glue allowed
+      at : (x : Option ℕ) → code_of (rule_by x strand on_glue allowed) ≤ 3
+      at (Some t) = seeded_most (eqb strand t) allowed
+      at None = unseeded_most on_glue allowed

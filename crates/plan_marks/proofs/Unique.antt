@@ -5,14 +5,14 @@ use Rattle.plan_marks.proofs.bays.mark_bays.Reads as bay-reads
 use Rattle.plan_marks.proofs.strands.rule_strands.Kinds as strand-kinds
 use Rattle.plan_marks.proofs.strands.rule_strands.Reads as strand-reads
 
-pub mark_bays : OneAnswer 9 bay-kinds.ps bay-kinds.r bay-reads.Post
+pub mark_bays : OneAnswer 5 bay-kinds.ps bay-kinds.r bay-reads.Post
 mark_bays κs input a b at_a at_b p q = one_answer p.0 q.0
 
-pub marks : OneExit 9 bay-kinds.ps bay-kinds.r (λ κs at. at.1.1.1.1.1.1.1.1.1.1.0.now) bay-reads.Post
+pub marks : OneExit 5 bay-kinds.ps bay-kinds.r (λ κs at. at.1.1.0.now) bay-reads.Post
 marks κs input a b at_a at_b p q = one_answer p.1 q.1
 
-pub rule_strands : OneAnswer 9 strand-kinds.ps strand-kinds.r strand-reads.Post
+pub rule_strands : OneAnswer 5 strand-kinds.ps strand-kinds.r strand-reads.Post
 rule_strands κs input a b at_a at_b p q = one_answer p.0 q.0
 
-pub rules : OneExit 9 strand-kinds.ps strand-kinds.r (λ κs at. at.1.1.1.1.1.1.1.1.1.1.1.0.now) strand-reads.Post
+pub rules : OneExit 5 strand-kinds.ps strand-kinds.r (λ κs at. at.1.1.1.0.now) strand-reads.Post
 rules κs input a b at_a at_b p q = one_answer p.1 q.1

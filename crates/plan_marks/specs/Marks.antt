@@ -1,12 +1,10 @@
 -- The mark of each bay of a system, the code of the rule for each strand at one bay, and what is refused of either call. Assumes nothing.
-use Rattle.std.specs.Prelude.{ℕ, ◌<◌, ◌≡◌, true, not, ◌&&◌, List, [], eqb, ltb, length}
+use Rattle.std.specs.Prelude.{ℕ, ◌≡◌, true, not, ◌&&◌, List, [], eqb, ltb, length, None}
 use Rattle.units.specs.Refusals.{Verdict, refuse_if, ◌▷◌, if_passes}
-use Rattle.bay_system.specs.declared.sizes.Sizes.{Sizes}
+use Rattle.units.specs.declared.refusal.Refusal.TheVariants.{Shape}
 use Rattle.bay_system.specs.System.{System, bays}
 use Rattle.bay_lists.specs.Lists.{Constraints, list_of, names}
-use Rattle.bay_legal_at.specs.declared.seeds.Seed.TheVariants.{Unseeded}
 use Rattle.bay_legal_at.specs.Legal.{seed_of}
-use Rattle.bay_legal_at.specs.OnGrid.{OnGrid}
 use Rattle.bay_given.specs.Given.{given_verdict}
 use Rattle.ledger_rows.specs.Blocks.{tab}
 use Rattle.plan_reasons.specs.declared.bays.BayReason.{BayReason}
@@ -34,13 +32,9 @@ marks_after s c lent = if_passes (given_verdict s (length lent) c) (marks_of s c
 
 -- a bay that its list keeps empty: no strand is seeded there, and the list is not empty and names nothing but 0
 pub record KeptByList (s : System) (c : Constraints) (bay : ℕ) : Type 0 where
-  pub unseeded : seed_of s bay ≡ Unseeded
+  pub unseeded : seed_of s bay ≡ None
   pub some : list_of c bay ≡ [] → ⊥
   pub zeros : (strand : ℕ) → names (list_of c bay) strand ≡ true → strand ≡ 0
-
--- what the loop over the bays asks of a system that passed its tests
-abbrev pub EachOnGrid : Sizes → (scaffold seeds : List ℕ) → Type 0
-EachOnGrid z scaffold seeds = (bay : ℕ) → bay < length scaffold → OnGrid z scaffold seeds bay
 
 -- ---- strands
 
@@ -59,7 +53,7 @@ codes_of s c bay = tab (λ strand. code_of (rule_of s c bay strand)) s.sizes.str
 
 -- 5: the slice lent for the codes has not one place for each strand, or the bay is off the grid
 abbrev pub place_verdict : (strands bay_count lent bay : ℕ) → Verdict
-place_verdict strands bay_count lent bay = refuse_if (not (eqb lent strands && ltb bay bay_count)) 5 []
+place_verdict strands bay_count lent bay = refuse_if (not (eqb lent strands && ltb bay bay_count)) Shape
 
 -- 1 to 5 of what is given, then 5 of the lent slice and of the bay
 abbrev pub codes_verdict : System → (lent : ℕ) → Constraints → (bay : ℕ) → Verdict

@@ -1,18 +1,15 @@
 // The mark of every bay.
-ghost use Rattle.std.specs.Prelude.{◌≡◌, true, [], length};
-ghost use Rattle.units.specs.Refusals.{check};
-ghost use Rattle.bay_system.specs.System.{system};
-ghost use Rattle.bay_lists.specs.Lists.{constraints, by_offsets, offsets_shaped};
-ghost use Rattle.bay_given.specs.Given.{given_verdict};
-ghost use Rattle.ledger_rows.specs.Blocks.{tab};
-ghost use Rattle.plan_reasons.specs.Reasons.{reason_of};
-ghost use Rattle.plan_marks.specs.Marks.{mark_of, marks_after, EachOnGrid};
+ghost use Rattle.std.specs.Prelude.{◌≡◌, length};
+ghost use Rattle.bay_system.specs.System.{system_of};
+ghost use Rattle.bay_lists.specs.Lists.{constraints_of};
+ghost use Rattle.bay_given.specs.Given.{Given, given_verdict};
+ghost use Rattle.plan_marks.specs.Marks.{mark_of, marks_of, marks_after};
 
 use bay_given::check_given;
-use bay_lists::{ConstraintKind, offsets_read};
-use bay_system::Sizes;
+use bay_lists::Constraints;
+use bay_system::System;
 use plan_reasons::{BayReason, bay_reason};
-use units::Check;
+use units::Refusal;
 
 // The mark of a reason.
 fn mark_of(reason: BayReason) -> u8
@@ -27,64 +24,27 @@ fn mark_of(reason: BayReason) -> u8
 }
 
 // Writes the marks of all bays, row by row, for a system that passed its tests.
-fn fill_marks(
-    z: Sizes,
-    scaffold: &[u32],
-    seeds: &[u32],
-    offsets: &[usize],
-    tiles: &[u32],
-    marks: &mut [u8],
-)
-    requires each_on_grid { EachOnGrid z scaffold.now seeds.now }
-    requires tiles_value { offsets_shaped (length scaffold.now) (by_offsets offsets.now tiles.now) ≡ true }
-    requires marks_len { length marks.old ≡ length scaffold.now }
-    ensures { let s = system z [] scaffold.now [] [] [] seeds.now in
-        let c = by_offsets offsets.now tiles.now in
-        marks.new ≡ tab (λ bay. mark_of (reason_of s c bay)) (length scaffold.now) }
+fn fill_marks(system: &System<'_>, constraints: &Constraints<'_>, marks: &mut [u8])
+    requires given { Given (system_of system.now) (constraints_of constraints.now) }
+    requires marks_len { length marks.old ≡ length (system_of system.now).scaffold }
+    ensures { marks.new ≡ marks_of (system_of system.now) (constraints_of constraints.now) }
 {
-    let mut bay = 0;
-    while bay < marks.len() {
-        marks[bay] = mark_of(bay_reason(z, scaffold, seeds, offsets, tiles, bay));
-        bay += 1;
+    for (bay, mark) in marks.iter_mut().enumerate() {
+        *mark = mark_of(bay_reason(system, constraints, bay));
     }
 }
 
 // Marks each bay of a grid: 0 free, 1 with a list, 2 seeded, 3 kept empty by a list of 0.
 pub fn mark_bays(
-    z: Sizes,
-    strand_glues: &[u32],
-    scaffold: &[u32],
-    delta_g: &[f64],
-    entropy: &[f64],
-    logs: &[f64],
-    seeds: &[u32],
-    kind: ConstraintKind,
-    offsets: &[usize],
-    tiles: &[u32],
+    system: &System<'_>,
+    constraints: &Constraints<'_>,
     marks: &mut [u8],
-) -> Check
-    ensures answer { let s = system z strand_glues.now scaffold.now delta_g.now entropy.now logs.now seeds.now in
-        result ≡ check (given_verdict s (length marks.old) (constraints kind offsets.now tiles.now)) }
-    ensures marks { let s = system z strand_glues.now scaffold.now delta_g.now entropy.now logs.now seeds.now in
-        marks.new ≡ marks_after s (constraints kind offsets.now tiles.now) marks.old }
+) -> Result<(), Refusal>
+    ensures answer { let s = system_of system.now in
+        result ≡ given_verdict s (length marks.old) (constraints_of constraints.now) }
+    ensures marks { marks.new ≡ marks_after (system_of system.now) (constraints_of constraints.now) marks.old }
 {
-    match check_given(
-        z,
-        strand_glues,
-        scaffold,
-        delta_g,
-        entropy,
-        logs,
-        seeds,
-        kind,
-        offsets,
-        tiles,
-        marks.len(),
-    ) {
-        Check::Refused(r) => return Check::Refused(r),
-        Check::Passed => (),
-    }
-    let ends = offsets_read(kind, offsets);
-    fill_marks(z, scaffold, seeds, ends, tiles, marks);
-    Check::Passed
+    check_given(system, constraints, marks.len())?;
+    fill_marks(system, constraints, marks);
+    Ok(())
 }
