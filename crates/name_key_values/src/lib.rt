@@ -50,7 +50,7 @@ impl KeyValues<'_> {
     }
 
     // What is refused of the values of all keys, in list order.
-    #[tactic(auto, using(text_entries::proofs::InOrder::each_more, text_entries::proofs::InOrder::each_refused, text_entries::proofs::InOrder::each_done,))]
+    #[tactic(auto, using(text_entries::proofs::InOrder::each_more, text_entries::proofs::InOrder::each_refused, text_entries::proofs::InOrder::each_done))]
     pub fn check(&self) -> Result<(), Refusal>
         requires numbers_len { length self.now.numbers.now ≡ length self.now.kinds.now + length self.now.kinds.now }
         requires sequence_offsets_len { length self.now.sequences.offsets.now ≡ length self.now.kinds.now + 1 }

@@ -41,7 +41,7 @@ impl SeedList<'_> {
 }
 
 // The first tile with this shown name.
-#[tactic(auto, using(text_entries::proofs::InOrder::here, text_entries::proofs::InOrder::later, text_entries::proofs::InOrder::nowhere, text_entries::proofs::InOrder::found_at, text_entries::proofs::InOrder::found_nowhere,))]
+#[tactic(auto, using(text_entries::proofs::InOrder::here, text_entries::proofs::InOrder::later, text_entries::proofs::InOrder::nowhere))]
 fn first_shown(names: &StrandNames<'_>, name: &[u8]) -> Option<usize>
     requires { StrandsReadable (strand_names_of names.now) }
     ensures { let n = strand_names_of names.now in
@@ -90,7 +90,7 @@ fn check_seed(
 }
 
 // The same of all seeds, in list order: the first that is refused counts.
-#[tactic(auto, using(text_entries::proofs::InOrder::each_more, text_entries::proofs::InOrder::each_refused, text_entries::proofs::InOrder::each_done,))]
+#[tactic(auto, using(text_entries::proofs::InOrder::each_more, text_entries::proofs::InOrder::each_refused, text_entries::proofs::InOrder::each_done))]
 pub fn check_seeds(
     rows: usize,
     cols: usize,
