@@ -2,15 +2,14 @@
 use Prim.Native.Nat.{ℕ, ◌<◌}
 use mathlib.Core.Path.{◌≡◌, refl, sym, ◌∙◌, ap, subst}
 use mathlib.Core.Bool.{Bool, true, ◌&&◌}
-use mathlib.Core.List.{List, []}
+use mathlib.Core.List.{List}
 use native.Mathlib.Decide.{ℕ_discrete}
-use native.Mathlib.Omega.{arith}
 use lib.Dec.{eqb}
 use lib.Ieee.{Float, le}
 use lib.ListN.{length, get_or}
 use borrow.Author.Tests.{eqb-true, eq-eqb}
 use Rattle.std.specs.Prelude.{Ok, Err}
-use Rattle.units.specs.Refusals.{Verdict, passes, refuses, ◌▷◌, if_passes, answer}
+use Rattle.units.specs.Refusals.{Verdict, passes, ◌▷◌, if_passes, answer}
 use Rattle.units.proofs.Verdicts.{no_fault, first_passes, rest_passes}
 use Rattle.units.proofs.Tests.{both}
 use Rattle.bay_system.specs.System.{System, bays}

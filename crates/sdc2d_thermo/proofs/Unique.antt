@@ -7,11 +7,11 @@ use Rattle.energy_bays.proofs.edge_beta_between.Reads as edge
 use Rattle.energy_listing_sum.proofs.state_beta_energy.Kinds as state-kinds
 use Rattle.energy_listing_sum.proofs.state_beta_energy.Reads as state
 
-pub site_beta_energy : OneAnswer 5 site-kinds.ps site-kinds.r site.Post
+pub site_beta_energy : OneAnswer 2 site-kinds.ps site-kinds.r site.Post
 site_beta_energy κs input a b at_a at_b p q = one_answer p q
 
-pub edge_beta_between : OneAnswer 3 edge-kinds.ps edge-kinds.r edge.Post
+pub edge_beta_between : OneAnswer 2 edge-kinds.ps edge-kinds.r edge.Post
 edge_beta_between κs input a b at_a at_b p q = one_answer p q
 
-pub state_beta_energy : OneAnswer 6 state-kinds.ps state-kinds.r state.Post
+pub state_beta_energy : OneAnswer 3 state-kinds.ps state-kinds.r state.Post
 state_beta_energy κs input a b at_a at_b p q = one_answer p q

@@ -1,5 +1,5 @@
 -- `run_export::run_export_mfe_configuration` meets its contract: that of the call, its answer turned into numbers. Assumes nothing.
-use mathlib.Core.Path.{◌≡◌, ◌∙◌, ap, refl}
+use mathlib.Core.Path.{◌∙◌, ap}
 use Rattle.run_export.specs.Numbers.{numbers}
 use Rattle.run_export.specs.declared.RunNumbers.{RunNumbers}
 use Rattle.run_export.proofs.Reading.{number_read}
