@@ -6,9 +6,8 @@ use lib.Ieee.{Float}
 use lib.ListN.{length, get_or, take}
 use native.Mathlib.Nat.{zero-add}
 use native.Mathlib.Omega.{arith}
-use Rattle.units.specs.Refusals.{Verdict, passes, refuses, ◌▷◌, if_passes}
-use Rattle.units.specs.Answers.{energy_answer}
-use Rattle.units.specs.declared.EnergyAnswer.TheVariants.{Energy}
+use Rattle.std.proofs.Common.{Ok, Err}
+use Rattle.units.specs.Refusals.{Verdict, passes, answer, ◌▷◌, if_passes}
 use Rattle.units.proofs.Verdicts.{first_passes, rest_passes}
 use Rattle.bay_lists.specs.Lists.{Constraints, lists}
 use Rattle.bay_given.specs.Given.{given_verdict}
@@ -31,9 +30,9 @@ use Rattle.plan_chemists_answer.proofs.Fields.{by_the_fields}
 use Rattle.plan_chemists_answer.proofs.TwoCalls.{SheetRead, rows_of, columns_of, text_of, offsets_read, tiles_read, RunAnswered, system_of, given_lists, layout_of, HandedOn}
 
 -- an answer that is an energy comes from tests that pass
-answered : (v : Verdict) (x e : Float) → energy_answer v x ≡ Energy e → v ≡ passes
-answered passes x e q = refl
-answered (refuses number values) x e q = let z : ◌≡◌ {A = ℕ} 0 1 = cc in absurd (omega arith)
+answered : (v : Verdict) (x e : Float) → answer v x ≡ Ok e → v ≡ passes
+answered (Ok passed) x e q = refl
+answered (Err r) x e q = absurd (cc)
 
 module _ (r : SheetRead) where
   abbrev offsets_lent : List ℕ
@@ -43,16 +42,16 @@ module _ (r : SheetRead) where
   tiles_lent = r.input.1.1.1.1.0.now
 
   read_passes : (read_verdict (rows_of r) (columns_of r) (text_of r) offsets_lent tiles_lent ≡ passes) × (tile_count (rows_of r) (columns_of r) (text_of r) ≡ r.count)
-  read_passes = counted (read_verdict (rows_of r) (columns_of r) (text_of r) offsets_lent tiles_lent) (tile_count (rows_of r) (columns_of r) (text_of r)) r.count (sym r.contract.1.0)
+  read_passes = counted (read_verdict (rows_of r) (columns_of r) (text_of r) offsets_lent tiles_lent) (tile_count (rows_of r) (columns_of r) (text_of r)) r.count (sym r.contract.0)
 
   offsets_are_starts : offsets_read r ≡ starts 0 (sheet_lists (rows_of r) (columns_of r) (text_of r))
-  offsets_are_starts = r.contract.1.1.0 ∙ read_offsets (rows_of r) (columns_of r) (text_of r) offsets_lent tiles_lent read_passes.0
+  offsets_are_starts = r.contract.1.0 ∙ read_offsets (rows_of r) (columns_of r) (text_of r) offsets_lent tiles_lent read_passes.0
 
   -- what it left are the constraints that the sheet's lists are
   lists_of_sheet : lists (offsets_read r) (tiles_read r) ≡ sheet_constraints (rows_of r) (columns_of r) (text_of r)
   lists_of_sheet =
       ap₂ (λ (offsets tiles : List ℕ). lists offsets tiles) offsets_are_starts
-      (ap (take r.count) r.contract.1.1.1
+      (ap (take r.count) r.contract.1.1
       ∙ ap (λ (n : ℕ). take n (tiles_after (rows_of r) (columns_of r) (text_of r) offsets_lent tiles_lent)) (sym read_passes.1)
       ∙ read_tiles (rows_of r) (columns_of r) (text_of r) offsets_lent tiles_lent read_passes.0)
 
@@ -66,13 +65,13 @@ module _ (r : SheetRead) where
 module _ (m : RunAnswered) where
   abbrev lent : ℕ × (ℕ × ℕ)
   lent =
-      let a = m.input.1.1.1.1.1.1.1.1.1.1 in
+      let a = m.input.1.1 in
       (length a.0.now, (length a.1.0.now, length a.1.1.0.now))
 
   run_passes : run_verdict (system_of m) (given_lists m) lent.0 lent.1.0 lent.1.1 ≡ passes
   run_passes =
       answered (run_verdict (system_of m) (given_lists m) lent.0 lent.1.0 lent.1.1) (in_kcal (least_sum (system_of m) (given_lists m)) (system_of m).sizes.kelvin) m.energy
-      (sym m.contract.1.0)
+      (sym m.contract.0)
 
   -- the layout that it left is legal
   legal : LegalLayout (system_of m) (given_lists m) (layout_of m)
@@ -85,8 +84,8 @@ module _ (m : RunAnswered) where
       let given = given_verdict s lent.0 c in
       let sound = is_fine s lent.0 c (first_passes given (empty ▷ room) early) in
       let some = first_passes empty room (rest_passes given (empty ▷ room) early) in
-      let old = m.input.1.1.1.1.1.1.1.1.1.1.0.now in
-      let left : layout_of m ≡ least_layout s c = m.contract.1.1.0 ∙ ap (λ (v : Verdict). if_passes v (least_layout s c) old) run_passes in
+      let old = m.input.1.1.0.now in
+      let left : layout_of m ≡ least_layout s c = m.contract.1.0 ∙ ap (λ (v : Verdict). if_passes v (least_layout s c) old) run_passes in
       subst (LegalLayout s c) (sym left) (run_is_right s c sound some).legal
 
 -- Where `read_sheet` read the sheet and the run on the lists so read ended in a layout, that layout is what the chemist's fields say.

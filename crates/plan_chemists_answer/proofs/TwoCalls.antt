@@ -8,10 +8,10 @@ use lib.ListN.{take}
 use contract.Lifetimes.{Lfts}
 use denote.Triple.Clauses.{AtExit}
 use borrow.Fn.Kinds.{Dens, ended_of}
-use Rattle.units.specs.declared.CountAnswer.TheVariants.{Count}
-use Rattle.units.specs.declared.EnergyAnswer.TheVariants.{Energy}
-use Rattle.bay_system.specs.System.{System, system}
-use Rattle.bay_lists.specs.Lists.{Constraints, constraints, lists}
+use Rattle.std.proofs.Common.{Ok}
+use Rattle.bay_system.specs.System.{System}
+use Rattle.bay_system.specs.System as lent
+use Rattle.bay_lists.specs.Lists.{Constraints, constraints_of, lists}
 use Rattle.sheet.proofs.read_sheet.Kinds as read-kinds
 use Rattle.sheet.proofs.read_sheet.Reads as read_sheet
 use Rattle.run_mfe.proofs.mfe_configuration.Kinds as run-kinds
@@ -23,7 +23,7 @@ pub record SheetRead : Type 0 where
   pub input : Dens lifetimes read-kinds.ps
   pub count : ℕ
   pub exit : AtExit (ended_of 3 read-kinds.ps read-kinds.r) lifetimes
-  pub contract : read_sheet.Post lifetimes input (Count count) exit
+  pub contract : read_sheet.Post lifetimes input (Ok count) exit
 
 module _ (r : SheetRead) where
   abbrev pub rows_of : ℕ
@@ -45,27 +45,23 @@ module _ (r : SheetRead) where
 
 -- a call of `mfe_configuration` that answered an energy
 pub record RunAnswered : Type 0 where
-  pub lifetimes : Lfts 11
+  pub lifetimes : Lfts 7
   pub input : Dens lifetimes run-kinds.ps
   pub energy : Float
-  pub exit : AtExit (ended_of 11 run-kinds.ps run-kinds.r) lifetimes
-  pub contract : run.Post lifetimes input (Energy energy) exit
+  pub exit : AtExit (ended_of 7 run-kinds.ps run-kinds.r) lifetimes
+  pub contract : run.Post lifetimes input (Ok energy) exit
 
 module _ (m : RunAnswered) where
   -- the system and the lists that it was given
   abbrev pub system_of : System
-  system_of =
-      let a = m.input.1 in
-      system m.input.0 a.0.now a.1.0.now a.1.1.0.now a.1.1.1.0.now a.1.1.1.1.0.now a.1.1.1.1.1.0.now
+  system_of = lent.system_of m.input.0.now
 
   abbrev pub given_lists : Constraints
-  given_lists =
-      let a = m.input.1.1.1.1.1.1.1 in
-      constraints a.0 a.1.0.now a.1.1.0.now
+  given_lists = constraints_of m.input.1.0.now
 
   -- the layout that it left
   abbrev pub layout_of : List ℕ
-  layout_of = m.exit.1.1.1.1.1.1.1.1.1.1.0.now
+  layout_of = m.exit.1.1.0.now
 
 -- the run was over the grid that the sheet was read for, and was given the lists so read
 pub record HandedOn (r : SheetRead) (m : RunAnswered) : Type 0 where
