@@ -72,11 +72,9 @@ fn put_rows(
 {
     let mut next = at;
     let mut bay = 0;
-    let mut row = 0;
-    while row < rows {
+    for row in 0..rows {
         next = put_row(row, cols, layout, names, marks, bay, out, next);
         bay += cols;
-        row += 1;
     }
     next
 }
@@ -99,8 +97,7 @@ fn put_row(
 {
     let down = 64 + 80 * (row as u64);
     let mut next = at;
-    let mut col = 0;
-    while col < cols {
+    for col in 0..cols {
         let bay = first + col;
         next = put_bay(
             names,
@@ -111,7 +108,6 @@ fn put_row(
             out,
             next,
         );
-        col += 1;
     }
     next
 }

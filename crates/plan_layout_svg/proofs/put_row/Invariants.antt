@@ -1,5 +1,4 @@
 -- `plan_layout_svg::put_row` meets its contract: the invariant is that the bays that are left end the row. Assumes nothing.
-use Prim.Native.Nat.{◌-◌}
 use Rattle.name_strands.specs.Names.{strand_names_of}
 use Rattle.plan_layout_svg.proofs.Rows.{Row}
 use Rattle.plan_layout_svg.proofs.put_row.Given as goal
@@ -7,7 +6,3 @@ use Rattle.plan_layout_svg.proofs.put_row.Given as goal
 abbrev pub invariant-loop-col : goal.invariant-loop-col
 invariant-loop-col l =
     Row (strand_names_of l.names) l.layout l.marks l.row l.first l.cols l.initial.out l.at l.out l.next l.col
-
-abbrev pub decreases-loop-col : goal.decreases-loop-col
-decreases-loop-col l =
-    l.cols - l.col

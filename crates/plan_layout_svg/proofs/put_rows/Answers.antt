@@ -18,12 +18,6 @@ put_row-next-requires c =
 pub overflow_add-bay : goal.overflow_add-bay
 overflow_add-bay c = omega (arith, c.loop-row-test.true, c.requires.rows_le_most_side, c.loop-row.invariant.few)
 
-pub overflow_add-row : goal.overflow_add-row
-overflow_add-row c = omega (arith, c.loop-row-test.true, c.requires.rows_le_most_side, c.loop-row.invariant.few)
-
-pub loop-row-smaller : goal.loop-row-smaller
-loop-row-smaller c = omega (arith, c.loop-row-test.true, c.requires.rows_le_most_side, c.loop-row.invariant.few)
-
 pub loop-row-preserved : goal.loop-row-preserved
 loop-row-preserved c = let a = c.args in
     grid_goes_on (strand_names_of a.names.now) a.layout.now a.marks.now a.cols a.rows a.out.now a.at c.loop-row.out c.loop-row.next c.loop-row.bay c.loop-row.row c.loop-row.invariant

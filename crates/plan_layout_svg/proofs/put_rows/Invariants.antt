@@ -1,5 +1,4 @@
 -- `plan_layout_svg::put_rows` meets its contract: the invariant is that the rows that are left end the grid. Assumes nothing.
-use Prim.Native.Nat.{◌-◌}
 use Rattle.name_strands.specs.Names.{strand_names_of}
 use Rattle.plan_layout_svg.proofs.Rows.{Grid}
 use Rattle.plan_layout_svg.proofs.put_rows.Given as goal
@@ -7,7 +6,3 @@ use Rattle.plan_layout_svg.proofs.put_rows.Given as goal
 abbrev pub invariant-loop-row : goal.invariant-loop-row
 invariant-loop-row l =
     Grid (strand_names_of l.names) l.layout l.marks l.cols l.rows l.initial.out l.at l.out l.next l.bay l.row
-
-abbrev pub decreases-loop-row : goal.decreases-loop-row
-decreases-loop-row l =
-    l.rows - l.row
