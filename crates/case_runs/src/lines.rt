@@ -3,28 +3,20 @@ use case_answer_lines::{put_float, put_text, put_value, refused};
 use case_answer_lists::{put_next_float, put_next_number, put_small_numbers};
 use case_lent::{all_bytes, all_floats, all_small_numbers, put_rest};
 use case_text::front;
-use units::{EnergyAnswer, Refusal};
+use units::Refusal;
 
 fn put_energies(out: &mut [u8], at: usize, energies: &[f64]) -> usize {
     let mut next = put_text(out, at, b" energies=");
-    let mut row = 0;
-    while row < energies.len() {
-        next = put_next_float(out, next, row, energies[row]);
-        row += 1;
+    for (row, energy) in energies.iter().enumerate() {
+        next = put_next_float(out, next, row, *energy);
     }
     next
 }
 
-fn wide(note: u8) -> u64 {
-    note as u64
-}
-
 fn put_leaving(out: &mut [u8], at: usize, leaving: &[u8]) -> usize {
     let mut next = put_text(out, at, b" leaving=");
-    let mut row = 0;
-    while row < leaving.len() {
-        next = put_next_number(out, next, row, wide(leaving[row]));
-        row += 1;
+    for (row, note) in leaving.iter().enumerate() {
+        next = put_next_number(out, next, row, u64::from(*note));
     }
     next
 }
@@ -104,14 +96,14 @@ fn put_refusal(
 // The line of a run that needs so many rows.
 pub(crate) fn put_run(
     out: &mut [u8],
-    answer: EnergyAnswer,
+    answer: Result<f64, Refusal>,
     need: usize,
     layout: &[u32],
     energies: &[f64],
     leaving: &[u8],
 ) -> usize {
     match answer {
-        EnergyAnswer::Refused(r) => put_refusal(out, r, need, layout, energies, leaving),
-        EnergyAnswer::Energy(x) => put_least(out, x, need, layout, energies, leaving),
+        Err(r) => put_refusal(out, r, need, layout, energies, leaving),
+        Ok(x) => put_least(out, x, need, layout, energies, leaving),
     }
 }
