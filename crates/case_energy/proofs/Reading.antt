@@ -6,6 +6,7 @@ use mathlib.Core.Path.{◌≡◌, refl, sym, ap, ◌∙◌}
 use native.Mathlib.Omega.{arith}
 use borrow.Author.Tests.{leb-true}
 use lib.Dec.{leb}
+use lib.Ieee.{Float}
 use lib.ListN.{length, take, drop}
 use lib.Seq.{take_all, take-length, take-append-le}
 use Rattle.case_lists.specs.declared.Count.TheVariants.{Of, Unreadable}
@@ -16,7 +17,8 @@ use Rattle.case_field_reads.specs.Reads.{list_read}
 use Rattle.case_field_reads.specs.declared.ListRead.{ListRead}
 use Rattle.text_digits.specs.Digits.{worth, is_number}
 use Rattle.text_put.specs.Words.{bytes}
-use Rattle.units.specs.declared.EnergyAnswer.{EnergyAnswer}
+use Rattle.std.specs.Prelude.{Result}
+use Rattle.units.specs.declared.refusal.Refusal.{Refusal}
 use Rattle.bay_system.specs.System.{System}
 use Rattle.energy_state.specs.StateG.{state_g}
 use Rattle.case_answer_lines.specs.Lines.{unreadable_text}
@@ -79,7 +81,7 @@ module _ (s : System) (line : List ℕ) (r : ListRead) (e : r ≡ list_read (fie
 
   pub asked : not r.readable ≡ false → (old table layout : List ℕ) → length old ≡ 1089
       → table ≡ field_front (is_number (2 ^ 32)) (worth 10 0) items (bytes "layout") line old → layout ≡ take r.count table
-      → (a : EnergyAnswer) → a ≡ state_g s layout → energy_text a ≡ answer_text s line
+      → (a : Result Float Refusal) → a ≡ state_g s layout → energy_text a ≡ answer_text s line
   asked h old table layout long t l a g =
       let could : readable_layout line ≡ true = ap (λ (x : ListRead). x.readable) (sym e) ∙ turned r.readable false h in
       let same : layout ≡ layout_in line = l ∙ rw (t, e) (field_taken (is_number (2 ^ 32)) (worth 10 0) (bytes "layout") line old 1089 long could) in
