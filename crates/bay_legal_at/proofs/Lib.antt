@@ -1,6 +1,5 @@
 pub mod SeedOf
 pub mod SeedBelow
-pub mod BaseSet
 pub mod Sound
 pub mod StrandBelow
 pub mod ChemistsQuestion

@@ -27,7 +27,3 @@ module _ (cols : ℕ) (seeds : List ℕ) (bay at : ℕ) (found : Option ℕ) whe
   pub no_seed_left : length seeds ≤ at → later (seed_at cols (drop at seeds) bay) found ≡ found
   unfolding seed_at
   no_seed_left h = rw (drop_of_length-le seeds h)
-
-pub later_none : (a : Option ℕ) → later a None ≡ a
-later_none None = refl
-later_none (Some t) = refl
