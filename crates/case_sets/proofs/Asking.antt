@@ -5,8 +5,7 @@ use mathlib.Core.List.{List}
 use mathlib.Core.Path.{◌≡◌, ap}
 use native.Mathlib.Omega.{arith}
 use lib.ListN.{length}
-use Rattle.units.specs.Refusals.{check}
-use Rattle.units.specs.declared.Check.{Check}
+use Rattle.units.specs.Refusals.{Verdict}
 use Rattle.bay_system.specs.System.{System}
 use Rattle.bay_lists.specs.Lists.{Constraints}
 use Rattle.bay_legal.specs.Sets.{allowed_verdict, sets_after}
@@ -22,7 +21,7 @@ module _ (readable : Bool) (s : System) (c : Constraints) (lent : List ℕ) wher
   pub unread : not readable ≡ true → unreadable_text ≡ asked_text readable s c lent
   unread h = rw (turned readable true h)
 
-  pub read : not readable ≡ false → (answer : Check) (kept : Bool) (after : List ℕ) → answer ≡ check (allowed_verdict s (length lent) c) → after ≡ sets_after s c lent
+  pub read : not readable ≡ false → (answer : Verdict) (kept : Bool) (after : List ℕ) → answer ≡ allowed_verdict s (length lent) c → after ≡ sets_after s c lent
       → kept ≡ sevens after → sets_text answer kept after ≡ asked_text readable s c lent
   read h answer kept after a t k = rw (turned readable false h, k, t, a)
 

@@ -1,8 +1,6 @@
 -- The line that answers a case of `allowed_tiles`. Assumes nothing.
-use Rattle.std.specs.Prelude.{ℕ, Bool, cond, List, ◌++◌, eqb, length}
-use Rattle.units.specs.Refusals.{check}
-use Rattle.units.specs.declared.Check.{Check}
-use Rattle.units.specs.declared.Check.TheVariants.{Passed, Refused}
+use Rattle.std.specs.Prelude.{ℕ, Bool, cond, List, ◌++◌, eqb, length, Ok, Err}
+use Rattle.units.specs.Refusals.{Verdict}
 use Rattle.bay_system.specs.System.{System}
 use Rattle.bay_lists.specs.Lists.{Constraints}
 use Rattle.bay_legal.specs.Sets.{allowed_verdict, sets_after}
@@ -13,9 +11,9 @@ use Rattle.case_answer_lists.specs.Lists.{listed}
 use Rattle.case_lent.specs.Kept.{all_from}
 
 -- `sets` and the table, or the refusal and whether the table is as it was
-abbrev pub sets_text : Check → (kept : Bool) → (sets : List ℕ) → List ℕ
-sets_text Passed kept sets = bytes "sets " ++ listed number_text 0 sets
-sets_text (Refused r) kept sets = refused_text r ++ tables_text kept
+abbrev pub sets_text : Verdict → (kept : Bool) → (sets : List ℕ) → List ℕ
+sets_text (Ok passed) kept sets = bytes "sets " ++ listed number_text 0 sets
+sets_text (Err r) kept sets = refused_text r ++ tables_text kept
 
 -- whether a table holds sevens
 abbrev pub sevens : List ℕ → Bool
@@ -23,4 +21,4 @@ sevens table = all_from (λ x. eqb x 7) 0 table
 
 -- what is told of a system and a lent table: the library's answer and what the table holds then, or `unreadable`
 abbrev pub asked_text : (readable : Bool) → System → Constraints → (lent : List ℕ) → List ℕ
-asked_text readable s c lent = cond readable (sets_text (check (allowed_verdict s (length lent) c)) (sevens (sets_after s c lent)) (sets_after s c lent)) unreadable_text
+asked_text readable s c lent = cond readable (sets_text (allowed_verdict s (length lent) c) (sevens (sets_after s c lent)) (sets_after s c lent)) unreadable_text
