@@ -1,18 +1,12 @@
--- `write::write_sheet` meets its contract: the tests of the lists, then the room and the sheet. Assumes nothing.
-use Rattle.units.proofs.Verdicts.{passed}
-use Rattle.sheet.specs.Room.{lists_verdict}
-use Rattle.sheet.proofs.Writing.{shape_passed, lists_refuse, lists_pass}
+-- `write::write_sheet` meets its contract: the sheet that is put is the front of the text. Assumes nothing.
+use Rattle.std.proofs.Common.{arith}
+use Rattle.std.proofs.lemmas.Grind.{common_steps}
+use Rattle.sheet.specs.Write.{sheet_bytes}
+use Rattle.sheet.proofs.Writing.{filled}
 use Rattle.sheet.proofs.write.write_sheet.Goals as goal
 
-pub fill_text-requires : goal.fill_text-requires
-fill_text-requires c = let a = c.args in
-    shape_passed a.rows a.cols a.offsets.now a.tiles.now
-    (passed (lists_verdict a.rows a.cols a.offsets.now a.tiles.now) c.check_lists.ensures c.in-Passed.is)
-
-pub returns-in-Refused : goal.returns-in-Refused
-returns-in-Refused c = let a = c.args in
-    lists_refuse a.rows a.cols a.offsets.now a.tiles.now a.text.now c.check_lists.ensures c.in-Refused.is
-
-pub returns-in-Passed : goal.returns-in-Passed
-returns-in-Passed c = let a = c.args in
-    lists_pass a.rows a.cols a.offsets.now a.tiles.now a.text.now c.check_lists.ensures c.in-Passed.is c.fill_text.ensures
+pub returns-clause-text : goal.returns-clause-text
+returns-clause-text c = let a = c.args in
+    let front = filled c.sheet_length-need.result (sheet_bytes a.rows a.cols a.offsets.now a.tiles.now) a.text.now c.sheet_length-need.ensures c.if-text-need.false
+    (omega (arith, c.well_formed.1.1.1.1.0.1)) c.put_sheet.result c.put_sheet.new.text c.put_sheet.ensures in
+    grind (arith, common_steps)
