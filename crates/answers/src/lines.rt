@@ -3,19 +3,18 @@ ghost use Rattle.std.specs.Prelude.{◌≤◌, length};
 
 use crate::calls::answer;
 use case_answer_lines::put_text;
-use case_field_reads::at_most;
-use case_text::{front, is_case, line_end};
+use case_text::{front, is_case};
 use std::alloc::Global;
 use std::io::Read;
 
 // Standard output's number.
 const STDOUT: i32 = 1;
 
-// How many bytes at the front of the room are the begin of a line, and whether the file goes on.
-#[derive(Clone, Copy)]
-pub(crate) struct Held {
-    pub(crate) count: usize,
-    pub(crate) more: bool,
+// The room for one line, and the room for its answer.
+#[derive(Drop)]
+pub(crate) struct Rooms<'a> {
+    pub(crate) line: &'a mut [u8],
+    pub(crate) out: &'a mut [u8],
 }
 
 // Writes a line that stands in `out`.
@@ -46,29 +45,13 @@ fn answer_long_line(line: &[u8], out: &mut [u8]) {
 fn answer_lines(text: &[u8], out: &mut [u8]) -> usize
     ensures { result ≤ length text.now }
 {
-    let mut at = 0;
-    let mut end = line_end(text, 0);
-    while end < text.len() {
-        answer_line(&text[at..end], out);
-        at = end + 1;
-        end = line_end(text, at);
+    let Some(last) = text.iter().rposition(|byte| *byte == b'\n') else {
+        return 0;
+    };
+    for line in text[..last].split(|byte| *byte == b'\n') {
+        answer_line(line, out);
     }
-    at
-}
-
-// Moves what stands between two places to the front; how many bytes that are.
-fn to_front(room: &mut [u8], from: usize, to: usize) -> usize
-    ensures { result ≤ length room.old }
-{
-    let end = at_most(to, room.len());
-    let mut i = 0;
-    let mut j = from;
-    while j < end {
-        room[i] = room[j];
-        i += 1;
-        j += 1;
-    }
-    i
+    last + 1
 }
 
 // One read; 0 bytes at the end of the file, and where it fails, which is told.
@@ -84,41 +67,39 @@ fn read_once(alloc: Global, file: &mut impl Read, name: &[u8], room: &mut [u8]) 
     }
 }
 
-// Answers the lines that end among the first bytes of the room. Where the room is full of one line, that is told, and the rest of the line is
-// read as a comment.
-fn answer_held(end: usize, room: &mut [u8], out: &mut [u8]) -> usize {
-    let next = answer_lines(front(room, end), out);
-    let left = to_front(room, next, end);
-    if left < room.len() {
-        return left;
+// Answers the lines that end among the first bytes of the room, and moves the begin of the next to its front; how many bytes that are. Where the
+// room is full of one line, that is told, and the rest of the line is read as a comment.
+fn answer_held(end: usize, room: &mut [u8], out: &mut [u8]) -> usize
+    requires { end ≤ length room.old }
+{
+    let next = answer_lines(&room[..end], out);
+    if 0 < next || end < room.len() {
+        room.copy_within(next..end, 0);
+        return end - next;
     }
     answer_long_line(room, out);
-    if 0 < room.len() {
-        room[0] = b'#';
+    if let Some(first) = room.first_mut() {
+        *first = b'#';
     }
     1
 }
 
-// Reads once behind the begin of a line, and answers what is then there. The last line of a file may lack its end.
+// Reads once behind the begin of a line, which has so many bytes, and answers what is then there. The answer is how many bytes begin the next
+// line, nothing at the end of the file, whose last line may lack its end.
 pub(crate) fn answer_some(
     alloc: Global,
     file: &mut impl Read,
     name: &[u8],
-    held: Held,
-    room: &mut [u8],
-    out: &mut [u8],
-) -> Held {
-    let at = at_most(held.count, room.len());
-    let got = read_once(alloc, file, name, &mut room[at..]);
+    held: usize,
+    rooms: &mut Rooms<'_>,
+) -> Option<usize> {
+    let line = &mut *rooms.line;
+    let out = &mut *rooms.out;
+    let at = held.min(line.len());
+    let got = read_once(alloc, file, name, &mut line[at..]);
     if got == 0 {
-        answer_line(front(room, at), out);
-        return Held {
-            count: 0,
-            more: false,
-        };
+        answer_line(&line[..at], out);
+        return None;
     }
-    Held {
-        count: answer_held(at + got, room, out),
-        more: true,
-    }
+    Some(answer_held(at + got, line, out))
 }

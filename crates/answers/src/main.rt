@@ -5,68 +5,47 @@ mod calls;
 mod lines;
 
 use case_text::front;
-use lines::{Held, answer_some};
+use lines::{Rooms, answer_some};
 use std::alloc::Global;
 use std::io::Read;
 
-// Answers a file, a read at a time. A proved loop has to end, and nothing says that a file does, so it counts its turns down from a
-// number that no run uses up.
-fn answer_file(
-    alloc: Global,
-    file: &mut impl Read,
-    name: &[u8],
-    room: &mut [u8; 1048576],
-    out: &mut [u8; 1310720],
-) {
-    let mut held = Held {
-        count: 0,
-        more: true,
-    };
-    let mut turns = u64::MAX;
-    while turns > 0 && held.more {
-        held = answer_some(alloc, file, name, held, room, out);
-        turns -= 1;
+// Answers a file, a read at a time. A proved loop has to end, and nothing says that a file does, so its turns are counted up to a number that no
+// run reaches.
+fn answer_file(alloc: Global, file: &mut impl Read, name: &[u8], rooms: &mut Rooms<'_>) {
+    let mut held = 0;
+    for _ in 0..u64::MAX {
+        match answer_some(alloc, file, name, held, rooms) {
+            Some(count) => held = count,
+            None => return,
+        }
     }
 }
 
 // Answers the file that an argument names.
-fn answer_argument(
-    rt: &HostRuntime,
-    place: usize,
-    room: &mut [u8; 1048576],
-    out: &mut [u8; 1310720],
-) {
+fn answer_argument(rt: &HostRuntime, place: usize, rooms: &mut Rooms<'_>) {
     let mut path = io::buffer();
     let n = text_host::arg(rt, place, &mut path);
     let name = front(&path, n);
     match text_host::open_read(rt, name) {
-        Ok(mut file) => answer_file(rt.alloc(), &mut file, name, room, out),
+        Ok(mut file) => answer_file(rt.alloc(), &mut file, name, rooms),
         Err(error) => text_host::fail(rt.alloc(), name, error),
     }
 }
 
-// Answers one file after the other.
-fn answer_arguments(rt: &HostRuntime, room: &mut [u8; 1048576], out: &mut [u8; 1310720]) {
+// Answers one file after the other, or standard input where none is named.
+fn answer_all(rt: &HostRuntime, line: &mut [u8; 1048576], out: &mut [u8; 1310720]) {
+    let mut rooms = Rooms { line, out };
     let words = text_host::arg_count(rt);
-    let mut i = 1;
-    while i < words {
-        answer_argument(rt, i, room, out);
-        i += 1;
+    if words < 2 {
+        return answer_file(rt.alloc(), &mut rt.stdin(), b"standard input", &mut rooms);
+    }
+    for place in 1..words {
+        answer_argument(rt, place, &mut rooms);
     }
 }
 
 fn main(rt: HostRuntime) {
-    let mut room = [0u8; 1048576];
+    let mut line = [0u8; 1048576];
     let mut out = [0u8; 1310720];
-    if text_host::arg_count(&rt) < 2 {
-        answer_file(
-            rt.alloc(),
-            &mut rt.stdin(),
-            b"standard input",
-            &mut room,
-            &mut out,
-        );
-        return;
-    }
-    answer_arguments(&rt, &mut room, &mut out);
+    answer_all(&rt, &mut line, &mut out);
 }
