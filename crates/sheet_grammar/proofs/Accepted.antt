@@ -8,6 +8,7 @@ use native.Mathlib.Omega.{arith}
 use lib.Dec.{eqb, ltb}
 use lib.ListN.{length, length-append}
 use borrow.Author.Tests.{ltb-false, eqb-true, eqb-false, lt-ltb, ne_eqb}
+use Rattle.units.specs.declared.refusal.Refusal.TheVariants.{Field}
 use Rattle.units.specs.Refusals.{passes}
 use Rattle.units.proofs.Verdicts.{no_fault}
 use Rattle.sheet_fields.specs.Fields.{field, content, after}
@@ -278,7 +279,7 @@ pub passed_is_sheet : (rows columns : ℕ) (t : List ℕ) → 1 ≤ columns → 
     → SheetText columns rows t (contents (rows * columns) t) (cells (rows * columns) t)
 passed_is_sheet rows columns t some e =
     let at = (sheet_fault columns 1 rows t).line in
-    let first = ltb-false 0 at (no_fault (ltb 0 at) 19 (at ∷ (sheet_fault columns 1 rows t).field ∷ []) e) in
+    let first = ltb-false 0 at (no_fault (ltb 0 at) (Field at (sheet_fault columns 1 rows t).field) e) in
     sound columns 1 rows t some (omega arith) (omega arith)
 
 -- and one of the grammar passes

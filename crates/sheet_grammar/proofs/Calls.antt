@@ -3,7 +3,7 @@
 use Prim.Native.Nat.{ℕ, ◌+◌, ◌*◌, ◌≤◌}
 use mathlib.Core.Path.{◌≡◌, refl, ap, ◌∙◌}
 use mathlib.Core.Bool.{true, not, ◌&&◌}
-use mathlib.Core.List.{List, [], ◌∷◌}
+use mathlib.Core.List.{List}
 use native.Mathlib.Omega.{arith}
 use lib.Dec.{eqb, leb, ltb}
 use lib.ListN.{length, take, drop}
@@ -11,9 +11,9 @@ use lib.Seq.{take-append_seam}
 use borrow.Author.Tests.{eq-eqb, le-ltb, leb-true, not-false}
 use Rattle.units.proofs.Tests.{both}
 use Rattle.units.specs.Limits.{most_side, from_one_to}
-use Rattle.units.specs.Answers.{count_answer}
-use Rattle.units.specs.Refusals.{Verdict, passes, refuses, refuse_if, ◌▷◌, if_passes}
-use Rattle.units.specs.declared.CountAnswer.TheVariants.{Count}
+use Rattle.units.specs.Refusals.{Verdict, passes, refuse_if, ◌▷◌, answer, if_passes}
+use Rattle.units.specs.declared.refusal.Refusal.TheVariants.{Size, Shape, NoRoom}
+use Rattle.std.specs.Prelude.{Ok, Err}
 use Rattle.units.proofs.Verdicts.{first_passes, rest_passes, no_fault}
 use Rattle.sheet_fields.specs.Runs.{contents}
 use Rattle.sheet_cells.specs.Cells.{all_tiles, starts, front, sheet_verdict}
@@ -25,10 +25,10 @@ use Rattle.sheet_grammar.proofs.Accepted.{passed_is_sheet, complete}
 pub read_is_sheet : (rows columns : ℕ) (text offsets tiles : List ℕ) → read_verdict rows columns text offsets tiles ≡ passes
     → SheetText columns rows text (contents (rows * columns) text) (sheet_lists rows columns text)
 read_is_sheet rows columns text offsets tiles e =
-    let room = refuse_if (ltb (length tiles) (tile_count rows columns text)) 9 (tile_count rows columns text ∷ []) in
-    let lent = refuse_if (not (eqb (length offsets) (rows * columns + 1))) 5 [] ▷ room in
+    let room = refuse_if (ltb (length tiles) (tile_count rows columns text)) (NoRoom (tile_count rows columns text)) in
+    let lent = refuse_if (not (eqb (length offsets) (rows * columns + 1))) Shape ▷ room in
     let later = sheet_verdict rows columns text ▷ lent in
-    let sides = not-false (from_one_to most_side rows && from_one_to most_side columns) (no_fault (not (from_one_to most_side rows && from_one_to most_side columns)) 1 [] (first_passes (grid_verdict rows columns) later e)) in
+    let sides = not-false (from_one_to most_side rows && from_one_to most_side columns) (no_fault (not (from_one_to most_side rows && from_one_to most_side columns)) Size (first_passes (grid_verdict rows columns) later e)) in
     let some = leb-true 1 columns (both (leb 1 columns) (leb columns most_side) (both (from_one_to most_side rows) (from_one_to most_side columns) sides).1).0 in
     passed_is_sheet rows columns text some (first_passes (sheet_verdict rows columns text) lent (rest_passes (grid_verdict rows columns) later e))
 
@@ -41,9 +41,9 @@ sheet_is_read {rows = rows} {columns = columns} {text = text} sides s offsets ti
     rw (sides, (complete s).no_fault 1, eq-eqb (length offsets) (rows * columns + 1) shape, enough)
 
 -- an answer that is a count comes from tests that pass
-pub counted : (v : Verdict) (n count : ℕ) → count_answer v n ≡ Count count → (v ≡ passes) × (n ≡ count)
-counted passes n count e = (refl, cc)
-counted (refuses number values) n count e = let z : ◌≡◌ {A = ℕ} 0 1 = cc in absurd (omega arith)
+pub counted : (v : Verdict) (n count : ℕ) → answer v n ≡ Ok count → (v ≡ passes) × (n ≡ count)
+counted (Ok passed) n count e = (refl, cc)
+counted (Err r) n count e = absurd cc
 
 -- where the call passes, it leaves where the sheet's lists begin, and their numbers in front of what the tiles held
 module _ (rows columns : ℕ) (text o t : List ℕ) (read : read_verdict rows columns text o t ≡ passes) where

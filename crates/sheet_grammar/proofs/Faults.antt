@@ -12,7 +12,7 @@ use Rattle.sheet_fields.specs.Fields.{field, after}
 use Rattle.sheet_fields.specs.Runs.{past, goes_on, record_fault}
 use Rattle.sheet_number_lists.specs.NumberLists.{is_list}
 use Rattle.sheet_cells.specs.Cells.{is_cell, place, sheet_fault}
-use Rattle.sheet_cells.specs.declared.Place.{Place}
+use Rattle.sheet_fields.specs.declared.Place.{Place}
 use Rattle.sheet_grammar.specs.Grammar.{FieldText, RecordText, last, comma, LineEnd, Separator, at_end, at_comma, at_line, SheetText, none, line, open_ended}
 use Rattle.sheet_grammar.specs.FirstFault.{FieldHere, Fields, no_field, one_field, Lines, no_line, one_line, WrongRecord, bad_field, missing_field, surplus_field, WrongSheet, in_record, missing_record, surplus_record}
 use Rattle.sheet_grammar.proofs.OneField.{Begins, field_read, cell_text_lem, cell_read}

@@ -3,19 +3,19 @@
 use Prim.Native.Nat.{ℕ, suc, ◌+◌, ◌-◌, ◌*◌, ◌≤◌}
 use mathlib.Core.Path.{◌≡◌, refl, sym, ◌∙◌, ap, subst, subst₂}
 use mathlib.Core.Bool.{Bool, true, false, not, ◌&&◌}
-use mathlib.Core.List.{List, [], ◌∷◌, ◌++◌}
+use mathlib.Core.List.{List, ◌++◌}
 use native.Mathlib.Omega.{arith}
 use lib.Dec.{eqb, ltb, leb}
-use lib.ListN.{length, get_or}
+use lib.ListN.{length}
 use borrow.Author.Tests.{ltb-true, leb-true, lt-ltb}
 use Rattle.units.proofs.Tests.{both}
 use Rattle.units.specs.Limits.{most_side, from_one_to}
-use Rattle.units.specs.Refusals.{refuses, refuse_if, ◌▷◌, refusal, number_of, values_of}
-use Rattle.units.specs.Answers.{count_answer, count_refusal}
-use Rattle.units.specs.declared.CountAnswer.{CountAnswer}
-use Rattle.units.specs.declared.CountAnswer.TheVariants.{Count, Refused}
+use Rattle.std.specs.Prelude.{Result, Err}
+use Rattle.units.specs.Refusals.{refuses, refuse_if, ◌▷◌, answer}
+use Rattle.units.specs.declared.refusal.Refusal.{Refusal}
+use Rattle.units.specs.declared.refusal.Refusal.TheVariants.{Size, Shape, NoRoom, Field}
 use Rattle.sheet_cells.specs.Cells.{place, sheet_fault, sheet_verdict}
-use Rattle.sheet_cells.specs.declared.Place.{Place}
+use Rattle.sheet_fields.specs.declared.Place.{Place}
 use Rattle.sheet.specs.Read.{tile_count, read_answer}
 use Rattle.sheet_grammar.specs.Grammar.{SheetText}
 use Rattle.sheet_grammar.specs.FirstFault.{WrongSheet, in_record, missing_record, surplus_record, FirstFault}
@@ -38,7 +38,7 @@ some_line (in_record ls h bytes w) = omega arith
 some_line (missing_record s h) = omega arith
 some_line (surplus_record ls) = omega arith
 
-pub refused_at_first : {columns rows : ℕ} {text : List ℕ} {l number : ℕ} → FirstFault columns rows text l number → sheet_verdict rows columns text ≡ refuses 19 (l ∷ number ∷ [])
+pub refused_at_first : {columns rows : ℕ} {text : List ℕ} {l number : ℕ} → FirstFault columns rows text l number → sheet_verdict rows columns text ≡ refuses (Field l number)
 refused_at_first {l = l} f =
     let from_1 = some_line f.wrong_here in
     rw (told_at_first f, lt-ltb 0 l (omega arith))
@@ -62,16 +62,16 @@ module _ (columns rows : ℕ) (text : List ℕ) (some : 1 ≤ columns) where
       let up : suc (columns - 1) ≡ columns = omega arith in
       found_first (subst (λ (n : ℕ). SheetWrong n rows 1 text) up (sheet_wrong (columns - 1) rows 1 text (subst (λ (n : ℕ). 1 ≤ (sheet_fault n 1 rows text).line) (sym up) h)))
 
-  pub refused_is_first : (l number : ℕ) → sheet_verdict rows columns text ≡ refuses 19 (l ∷ number ∷ []) → FirstFault columns rows text l number
+  pub refused_is_first : (l number : ℕ) → sheet_verdict rows columns text ≡ refuses (Field l number) → FirstFault columns rows text l number
   refused_is_first l number e = go (ltb 0 (sheet_fault columns 1 rows text).line) refl e
     where
       go : (b : Bool) → ltb 0 (sheet_fault columns 1 rows text).line ≡ b
-          → refuse_if b 19 ((sheet_fault columns 1 rows text).line ∷ (sheet_fault columns 1 rows text).field ∷ []) ≡ refuses 19 (l ∷ number ∷ []) → FirstFault columns rows text l number
+          → refuse_if b (Field (sheet_fault columns 1 rows text).line (sheet_fault columns 1 rows text).field) ≡ refuses (Field l number) → FirstFault columns rows text l number
       go true f r =
           let same_line : (sheet_fault columns 1 rows text).line ≡ l = cc in
           let same_field : (sheet_fault columns 1 rows text).field ≡ number = cc in
           subst₂ (FirstFault columns rows text) same_line same_field (first_found (ltb-true 0 (sheet_fault columns 1 rows text).line f))
-      go false f r = let z : ◌≡◌ {A = ℕ} 0 1 = cc in absurd (omega arith)
+      go false f r = absurd cc
 
 -- what is wrong at a place goes on with no sheet of the grid
 pub no_sheet : {columns rows l number : ℕ} {before rest : List ℕ} {cs ls : List (List ℕ)} → WrongSheet columns rows before rest l number → SheetText columns rows (before ++ rest) cs ls → ⊥
@@ -85,7 +85,7 @@ no_sheet w s =
 module _ (rows columns : ℕ) (text offsets tiles : List ℕ) (l number : ℕ) where
   -- the call answers the refusal 19 with this line and this field
   abbrev pub Answers19 : Type 0
-  Answers19 = read_answer rows columns text offsets tiles ≡ Refused (refusal 19 (l ∷ number ∷ []))
+  Answers19 = read_answer rows columns text offsets tiles ≡ Err (Field l number)
 
   -- then they are the first place at which the text is wrong
   pub answer_is_first : Answers19 → FirstFault columns rows text l number
@@ -93,29 +93,24 @@ module _ (rows columns : ℕ) (text offsets tiles : List ℕ) (l number : ℕ) w
       go (from_one_to most_side rows && from_one_to most_side columns) refl (ltb 0 (sheet_fault columns 1 rows text).line) refl (not (eqb (length offsets) (rows * columns + 1)))
       (ltb (length tiles) (tile_count rows columns text)) e
     where
-      another : (n : ℕ) (values : List ℕ) → Refused (refusal n values) ≡ Refused (refusal 19 (l ∷ number ∷ [])) → (n ≡ 19 → ⊥) → FirstFault columns rows text l number
-      another n values f no-19 = absurd (no-19 (ap (λ (a : CountAnswer). number_of (count_refusal a)) f))
-
-      counted_not : {n : ℕ} → Count n ≡ Refused (refusal 19 (l ∷ number ∷ [])) → FirstFault columns rows text l number
-      counted_not f = let z : ◌≡◌ {A = ℕ} 0 19 = ap (λ (a : CountAnswer). number_of (count_refusal a)) f in absurd (omega arith)
-
       go : (p : Bool) → (from_one_to most_side rows && from_one_to most_side columns) ≡ p → (q : Bool) → ltb 0 (sheet_fault columns 1 rows text).line ≡ q → (a b : Bool)
-          → count_answer
-          (refuse_if (not p) 1 []
-          ▷ refuse_if q 19 ((sheet_fault columns 1 rows text).line ∷ (sheet_fault columns 1 rows text).field ∷ [])
-          ▷ refuse_if a 5 []
-          ▷ refuse_if b 9 (tile_count rows columns text ∷ [])) (tile_count rows columns text)
-          ≡ Refused (refusal 19 (l ∷ number ∷ []))
+          → ◌≡◌ {A = Result ℕ Refusal}
+          (answer
+          (refuse_if (not p) Size
+          ▷ refuse_if q (Field (sheet_fault columns 1 rows text).line (sheet_fault columns 1 rows text).field)
+          ▷ refuse_if a Shape
+          ▷ refuse_if b (NoRoom (tile_count rows columns text))) (tile_count rows columns text))
+          (Err (Field l number))
           → FirstFault columns rows text l number
-      go false s q f a b e = another 1 [] e (λ (z : 1 ≡ 19). omega arith)
+      go false s q f a b e = absurd cc
       go true s true f a b e =
           let some = leb-true 1 columns (both (leb 1 columns) (leb columns most_side) (both (from_one_to most_side rows) (from_one_to most_side columns) s).1).0 in
-          let values = ap (λ (c : CountAnswer). values_of (count_refusal c)) e in
-          subst₂ (FirstFault columns rows text) (ap (λ (v : List ℕ). get_or v 0 0) values) (ap (λ (v : List ℕ). get_or v 1 0) values)
-          (first_found columns rows text some (ltb-true 0 (sheet_fault columns 1 rows text).line f))
-      go true s false f true b e = another 5 [] e (λ (z : 5 ≡ 19). omega arith)
-      go true s false f false true e = another 9 (tile_count rows columns text ∷ []) e (λ (z : 9 ≡ 19). omega arith)
-      go true s false f false false e = counted_not e
+          let same_line : (sheet_fault columns 1 rows text).line ≡ l = cc in
+          let same_field : (sheet_fault columns 1 rows text).field ≡ number = cc in
+          subst₂ (FirstFault columns rows text) same_line same_field (first_found columns rows text some (ltb-true 0 (sheet_fault columns 1 rows text).line f))
+      go true s false f true b e = absurd cc
+      go true s false f false true e = absurd cc
+      go true s false f false false e = absurd cc
 
   -- and over a grid of the right size the call answers so where a place is the first
   pub first_is_answered : (from_one_to most_side rows && from_one_to most_side columns) ≡ true → FirstFault columns rows text l number → Answers19

@@ -9,7 +9,7 @@ use Rattle.units.specs.Refusals.{Verdict, passes, if_passes}
 use Rattle.units.proofs.Verdicts.{first_passes}
 use Rattle.bay_system.specs.System.{System, bays}
 use Rattle.bay_lists.specs.Lists.{Constraints, absent, lists, list_of, offsets_shaped}
-use Rattle.bay_legal_at.specs.declared.seeds.Seed.TheVariants.{Unseeded}
+use Rattle.std.specs.Prelude.{None}
 use Rattle.bay_legal_at.specs.Legal.{seed_of, is_legal, set_at}
 use Rattle.bay_legal_at.proofs.ChemistsQuestion.{keep_it_empty, no_restriction}
 use Rattle.bay_given.specs.Given.{given_verdict}
@@ -105,7 +105,7 @@ module _ (s : System) (text : List ℕ) (bay : ℕ) (inside : bay < bays s.sizes
   columns = s.sizes.cols
 
   -- an unseeded bay whose field is `0` has the set {0}, the number 1: it stays empty
-  pub field_0_keeps_empty : 1 ≤ s.sizes.strands → seed_of s bay ≡ Unseeded → bay_content rows columns text bay ≡ 48 ∷ []
+  pub field_0_keeps_empty : 1 ≤ s.sizes.strands → seed_of s bay ≡ None → bay_content rows columns text bay ≡ 48 ∷ []
       → set_at s (sheet_constraints rows columns text) bay ≡ 1
   field_0_keeps_empty some unseeded e =
       keep_it_empty s (sheet_constraints rows columns text) bay unseeded some
@@ -139,7 +139,7 @@ module _ (s : System) (text : List ℕ) (bay : ℕ) (inside : bay < bays s.sizes
           let empty = empty_verdict rows columns (sets_of s left) in
           (is_fine s (length sets) left (first_passes given empty found)).shape.sizes.some_strands
 
-      pub sheet_keeps_empty : seed_of s bay ≡ Unseeded → bay_content rows columns text bay ≡ 48 ∷ [] → get_or (sets_after s left sets) bay 0 ≡ 1
+      pub sheet_keeps_empty : seed_of s bay ≡ None → bay_content rows columns text bay ≡ 48 ∷ [] → get_or (sets_after s left sets) bay 0 ≡ 1
       sheet_keeps_empty unseeded e = set_left ∙ ap (λ (c : Constraints). set_at s c bay) left_is ∙ field_0_keeps_empty some_strand unseeded e
 
       -- and at a bay whose field has no content the set that the bay has without constraints

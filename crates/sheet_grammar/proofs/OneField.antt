@@ -11,9 +11,7 @@ use lib.ListN.{length, get_or, take, drop, take-append-drop, get_or-eq_default}
 use lib.Seq.{take-append_seam, drop-append_seam, drop-append-add, get_or-append_seam, drop-drop, drop-cons, append_snoc}
 use borrow.Author.Tests.{eqb-true, leb-true, leb-false}
 use Rattle.units.proofs.Tests.{both}
-use Rattle.sheet_fields.specs.Fields.{is_plain, plain_length, quoted_length, broken, ended, ending_of, field_of, bare_field, quoted_field, is_quoted, field, unquoted, raw, content, after}
-use Rattle.sheet_fields.specs.declared.Ending.{Ending}
-use Rattle.sheet_fields.specs.declared.Field.{Field}
+use Rattle.sheet_fields.specs.Fields.{EndFound, FieldFound, is_plain, plain_length, quoted_length, broken, ended, ending_of, field_of, bare_field, quoted_field, is_quoted, field, unquoted, raw, content, after}
 use Rattle.sheet_number_lists.specs.NumberLists.{is_list, list_in}
 use Rattle.sheet_cells.specs.Cells.{is_cell}
 use Rattle.sheet_grammar.specs.Grammar.{FieldText, bare, quoted, lf, crlf, Separator, at_end, at_comma, at_line}
@@ -43,7 +41,7 @@ pub record Begins (t : List ℕ) (more : Bool) (c tail : List ℕ) : Type 0 wher
   pub has : content t ≡ c
   pub leaves : after t ≡ tail
 
-abbrev sound_field : (more : Bool) → (from to next : ℕ) → Field
+abbrev sound_field : (more : Bool) → (from to next : ℕ) → FieldFound
 sound_field more from to next = record { sound = true; more = more; from = from; to = to; next = next }
 
 module _ (c rest tail : List ℕ) (more : Bool) (width : ℕ) (p : Bare c) (r : Rest more width rest tail) where
@@ -55,8 +53,8 @@ module _ (c rest tail : List ℕ) (more : Bool) (width : ℕ) (p : Bare c) (r : 
   unfolding content raw after
   bare_begins =
       record {
-        sound = ap (λ (f : Field). f.sound) bare_here;
-        goes_on = ap (λ (f : Field). f.more) bare_here;
+        sound = ap (λ (f : FieldFound). f.sound) bare_here;
+        goes_on = ap (λ (f : FieldFound). f.more) bare_here;
         has = rw (bare_unquoted c rest p r.no_quote, bare_here, sub-zero (length c)) (take-append_seam c rest);
         leaves = rw bare_here (drop-append-add c rest width ∙ r.left);
       }
@@ -76,8 +74,8 @@ module _ (c rest tail : List ℕ) (more : Bool) (width : ℕ) (p : Bare c) (r : 
   quoted_begins =
       let long : length c + 1 - 1 ≡ length c = omega arith in
       record {
-        sound = ap (λ (f : Field). f.sound) quoted_here;
-        goes_on = ap (λ (f : Field). f.more) quoted_here;
+        sound = ap (λ (f : FieldFound). f.sound) quoted_here;
+        goes_on = ap (λ (f : FieldFound). f.more) quoted_here;
         has = rw (quoted_here, long, take-append_seam c (34 ∷ rest)) (bare_itself c p);
         leaves = rw quoted_here (past_quote (length c + 2 + width) width (omega arith) ∙ r.left);
       }
@@ -92,7 +90,7 @@ field_read (quoted {t = c} l) {more = more} {sep = sep} {tail = tail} s =
 -- ---- a field that is read is one of the grammar
 
 -- a text begins with a separator
-record Separated (e : Ending) (rest : List ℕ) : Type 0 where
+record Separated (e : EndFound) (rest : List ℕ) : Type 0 where
   sep : List ℕ
   ends : Separator e.more sep (drop e.width rest)
   all : rest ≡ sep ++ drop e.width rest
@@ -128,7 +126,7 @@ pub record Cell (t : List ℕ) : Type 0 where
   pub ends : Separator (field t).more sep (after t)
   pub all : t ≡ text ++ (sep ++ after t)
 
-sound_ending : (from to at : ℕ) (e : Ending) → (field_of from to at e).sound ≡ true → (e.sound ≡ true) × (field_of from to at e ≡ sound_field e.more from to (at + e.width))
+sound_ending : (from to at : ℕ) (e : EndFound) → (field_of from to at e).sound ≡ true → (e.sound ≡ true) × (field_of from to at e ≡ sound_field e.more from to (at + e.width))
 unfolding field_of
 sound_ending from to at e h = go e.sound refl h
   where
@@ -140,7 +138,7 @@ sound_ending from to at e h = go e.sound refl h
 
 module _ (t : List ℕ) (list : is_list (content t) ≡ true) where
   -- from the content's place and the separator after it
-  cell_from : (e : Ending) (rest text : List ℕ) → Separated e rest → t ≡ text ++ rest → (field t).more ≡ e.more → after t ≡ drop e.width rest
+  cell_from : (e : EndFound) (rest text : List ℕ) → Separated e rest → t ≡ text ++ rest → (field t).more ≡ e.more → after t ≡ drop e.width rest
       → FieldText text (content t) (list_in (content t)) → Cell t
   cell_from e rest text s all more left f =
       record {
@@ -161,8 +159,8 @@ module _ (t : List ℕ) (list : is_list (content t) ≡ true) where
       let here : field t ≡ sound_field e.more 0 n (n + e.width) = as_bare ∙ known.1 in
       let text : content t ≡ take n t = rw (q, known.1, sub-zero n) in
       cell_from e (drop n t) (take n t) (separated (drop n t) known.0) (sym (take-append-drop n t))
-      (ap (λ (f : Field). f.more) here)
-      (ap (λ (f : Field). drop f.next t) here ∙ sym (drop-drop e.width n t))
+      (ap (λ (f : FieldFound). f.more) here)
+      (ap (λ (f : FieldFound). drop f.next t) here ∙ sym (drop-drop e.width n t))
       (subst (λ (u : List ℕ). FieldText u (content t) (list_in (content t))) text (bare (list_text (content t) list)))
 
 -- a place that holds a quote is within the text
@@ -173,7 +171,7 @@ inside u n e = go (leb (length u) n) refl
     go true h = let none = get_or-eq_default u 0 (leb-true (length u) n h) in absurd (omega arith)
     go false h = leb-false (length u) n h
 
-closed : (s : Bool) (e : Ending) → (cond s e broken).sound ≡ true → s ≡ true
+closed : (s : Bool) (e : EndFound) → (cond s e broken).sound ≡ true → s ≡ true
 closed true e h = refl
 closed false e h = absurd (true≢false (sym h))
 
@@ -196,7 +194,7 @@ module _ (a : ℕ) (u : List ℕ) (list : is_list (content (a ∷ u)) ≡ true) 
 
   module _ (h : (field t).sound ≡ true) where
     known : ((cond close (ending_of rest) broken).sound ≡ true) × (field_of 1 (n + 1) (n + 2) (cond close (ending_of rest) broken) ≡ sound_field (cond close (ending_of rest) broken).more 1 (n + 1) (n + 2 + (cond close (ending_of rest) broken).width))
-    known = sound_ending 1 (n + 1) (n + 2) (cond close (ending_of rest) broken) (sym (ap (λ (f : Field). f.sound) as_quoted) ∙ h)
+    known = sound_ending 1 (n + 1) (n + 2) (cond close (ending_of rest) broken) (sym (ap (λ (f : FieldFound). f.sound) as_quoted) ∙ h)
 
     closes : close ≡ true
     closes = closed close (ending_of rest) known.0
@@ -230,8 +228,8 @@ module _ (a : ℕ) (u : List ℕ) (list : is_list (content (a ∷ u)) ≡ true) 
     quoted_cell =
         cell_from t list (ending_of rest) rest (34 ∷ (take n u ++ 34 ∷ [])) (separated rest ended_well)
         (ap (λ (x : ℕ). x ∷ u) (eqb-true a 34 first) ∙ ap (λ (v : List ℕ). 34 ∷ v) split)
-        (ap (λ (f : Field). f.more) here)
-        (ap (λ (f : Field). drop f.next t) here ∙ sym (drop-drop (ending_of rest).width (n + 2) t))
+        (ap (λ (f : FieldFound). f.more) here)
+        (ap (λ (f : FieldFound). drop f.next t) here ∙ sym (drop-drop (ending_of rest).width (n + 2) t))
         (subst (λ (v : List ℕ). FieldText (34 ∷ (v ++ 34 ∷ [])) (content t) (list_in (content t))) has_text (quoted (list_text (content t) list)))
       where
         first : eqb a 34 ≡ true

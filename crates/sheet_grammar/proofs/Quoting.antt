@@ -3,8 +3,7 @@ use Prim.Native.Nat.{ℕ}
 use mathlib.Core.Path.{◌≡◌, refl, sym, ◌∙◌, ap, ap₂}
 use mathlib.Core.List.{List, [], ◌∷◌, ◌++◌, map}
 use lib.ListN.{length}
-use Rattle.units.specs.Refusals.{Verdict, if_passes}
-use Rattle.units.specs.Answers.{count_answer}
+use Rattle.units.specs.Refusals.{Verdict, if_passes, answer}
 use Rattle.sheet_number_lists.specs.NumberLists.{list_in}
 use Rattle.sheet_cells.specs.Cells.{all_tiles, starts, front}
 use Rattle.sheet.specs.Read.{sheet_lists, read_verdict, read_answer, offsets_after, tiles_after}
@@ -41,7 +40,7 @@ module _ {columns rows : ℕ} {s t : List ℕ} {cs ls ms : List (List ℕ)} (p :
     same_verdict = rw ((complete p).no_fault 1, (complete q).no_fault 1, read_the_same)
 
     pub same_answer : read_answer rows columns s o x ≡ read_answer rows columns t o x
-    same_answer = ap₂ (λ (v : Verdict) (ks : List (List ℕ)). count_answer v (length (all_tiles ks))) same_verdict read_the_same
+    same_answer = ap₂ (λ (v : Verdict) (ks : List (List ℕ)). answer v (length (all_tiles ks))) same_verdict read_the_same
 
     pub same_offsets_after : offsets_after rows columns s o x ≡ offsets_after rows columns t o x
     same_offsets_after = ap₂ (λ (v : Verdict) (ks : List (List ℕ)). if_passes v (starts 0 ks) o) same_verdict read_the_same

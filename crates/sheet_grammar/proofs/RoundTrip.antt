@@ -10,6 +10,7 @@ use lib.ListN.{length, get_or, take, drop, length-take, get_or-eq_default}
 use lib.Seq.{get_or-take, get_or-drop, take-append_seam}
 use borrow.Author.Tests.{le-ltb, ltb-false, leb-true, leb-false, eq-eqb, not-false}
 use Rattle.units.specs.Limits.{most_side, from_one_to}
+use Rattle.units.specs.declared.refusal.Refusal.TheVariants.{Size, Shape, NoRoom}
 use Rattle.units.specs.Refusals.{Verdict, passes, refuse_if, ◌▷◌, if_passes}
 use Rattle.units.proofs.Verdicts.{first_passes, rest_passes, no_fault}
 use Rattle.text_put.specs.Puts.{number_text}
@@ -223,25 +224,25 @@ module _ (rows columns : ℕ) (offsets tiles text : List ℕ) (wrote : write_ver
   wanted = sheet_bytes rows columns offsets tiles
 
   abbrev shape_link : Verdict
-  shape_link = refuse_if (not (offsets_shaped (rows * columns) (lists offsets tiles))) 5 []
+  shape_link = refuse_if (not (offsets_shaped (rows * columns) (lists offsets tiles))) Shape
 
   abbrev room_link : Verdict
-  room_link = refuse_if (ltb (length text) (bytes_needed rows columns offsets tiles)) 9 (bytes_needed rows columns offsets tiles ∷ [])
+  room_link = refuse_if (ltb (length text) (bytes_needed rows columns offsets tiles)) (NoRoom (bytes_needed rows columns offsets tiles))
 
   on_grid : (from_one_to most_side rows && from_one_to most_side columns) ≡ true
-  on_grid = not-false (from_one_to most_side rows && from_one_to most_side columns) (no_fault (not (from_one_to most_side rows && from_one_to most_side columns)) 1 [] (first_passes (grid_verdict rows columns) (shape_link ▷ room_link) wrote))
+  on_grid = not-false (from_one_to most_side rows && from_one_to most_side columns) (no_fault (not (from_one_to most_side rows && from_one_to most_side columns)) Size (first_passes (grid_verdict rows columns) (shape_link ▷ room_link) wrote))
 
   of_shape : offsets_shaped (rows * columns) (lists offsets tiles) ≡ true
   of_shape =
       not-false (offsets_shaped (rows * columns) (lists offsets tiles))
-      (no_fault (not (offsets_shaped (rows * columns) (lists offsets tiles))) 5 [] (first_passes shape_link room_link (rest_passes (grid_verdict rows columns) (shape_link ▷ room_link) wrote)))
+      (no_fault (not (offsets_shaped (rows * columns) (lists offsets tiles))) Shape (first_passes shape_link room_link (rest_passes (grid_verdict rows columns) (shape_link ▷ room_link) wrote)))
 
   -- the sheet is no longer than the text that was lent
   not_longer : length text < 2 ^ 63 → length wanted < 2 ^ 63
   not_longer slice =
       let enough =
       ltb-false (length text) (bytes_needed rows columns offsets tiles)
-      (no_fault (ltb (length text) (bytes_needed rows columns offsets tiles)) 9 (bytes_needed rows columns offsets tiles ∷ [])
+      (no_fault (ltb (length text) (bytes_needed rows columns offsets tiles)) (NoRoom (bytes_needed rows columns offsets tiles))
       (rest_passes shape_link room_link (rest_passes (grid_verdict rows columns) (shape_link ▷ room_link) wrote)))
       in
       omega arith

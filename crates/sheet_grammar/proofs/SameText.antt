@@ -9,9 +9,9 @@ use lib.Dec.{eqb, ltb}
 use lib.ListN.{length, get_or, length-append, get_or-append}
 use lib.Seq.{get_or-append-add}
 use borrow.Author.Tests.{le-ltb}
-use Rattle.units.specs.Refusals.{Verdict, passes, refuse_if, if_passes, ◌▷◌}
-use Rattle.units.specs.Answers.{count_answer}
-use Rattle.units.specs.declared.CountAnswer.TheVariants.{Count}
+use Rattle.units.specs.Refusals.{Verdict, passes, refuse_if, if_passes, ◌▷◌, answer}
+use Rattle.units.specs.declared.refusal.Refusal.TheVariants.{Shape, NoRoom}
+use Rattle.std.specs.Prelude.{Ok}
 use Rattle.units.proofs.Verdicts.{first_passes}
 use Rattle.bay_lists.specs.Lists.{Constraints, list_of, lists}
 use Rattle.sheet_cells.specs.Cells.{all_tiles, starts, front, sheet_verdict}
@@ -106,8 +106,8 @@ module _ (rows columns : ℕ) (text offsets tiles : List ℕ) (read : read_verdi
   abbrev later : Verdict
   later =
       sheet_verdict rows columns text
-      ▷ refuse_if (not (eqb (length offsets) (rows * columns + 1))) 5 []
-      ▷ refuse_if (ltb (length tiles) (tile_count rows columns text)) 9 (tile_count rows columns text ∷ [])
+      ▷ refuse_if (not (eqb (length offsets) (rows * columns + 1))) Shape
+      ▷ refuse_if (ltb (length tiles) (tile_count rows columns text)) (NoRoom (tile_count rows columns text))
 
   abbrev ours : List (List ℕ)
   ours = sheet_lists rows columns text
@@ -124,11 +124,11 @@ module _ (rows columns : ℕ) (text offsets tiles : List ℕ) (read : read_verdi
         rw (grid, sheet_is_shaped rows columns text, le-ltb (length lent) need has_room)
 
     abbrev writing : (o t : List ℕ) → Type 0
-    writing o t = (write_answer rows columns o t lent ≡ Count (length text)) × (text_after rows columns o t lent ≡ front text lent)
+    writing o t = (write_answer rows columns o t lent ≡ Ok (length text)) × (text_after rows columns o t lent ≡ front text lent)
 
     written_again : writing (starts 0 ours) (all_tiles ours)
     written_again = (
-      ap₂ count_answer writing_passes need_is,
+      ap₂ answer writing_passes need_is,
       ap₂ (λ (v : Verdict) (l : List ℕ). if_passes v (front l lent) lent) writing_passes same,
     )
 
@@ -139,7 +139,7 @@ module _ (rows columns : ℕ) (text offsets tiles : List ℕ) (read : read_verdi
 
 -- a text in the writer's form that is read comes back from the call that writes, where the text lent to it has room; a slice is shorter than 2^63
 pub text_comes_back : {columns rows : ℕ} {text : List ℕ} {cs ls : List (List ℕ)} → WrittenSheet columns rows text cs ls → (offsets tiles : List ℕ) (count : ℕ)
-    → read_answer rows columns text offsets tiles ≡ Count count → (lent : List ℕ) → length text < 2 ^ 63 → length text ≤ length lent → ComesBack rows columns text offsets tiles count lent
+    → read_answer rows columns text offsets tiles ≡ Ok count → (lent : List ℕ) → length text < 2 ^ 63 → length text ≤ length lent → ComesBack rows columns text offsets tiles count lent
 text_comes_back {columns = columns} {rows = rows} {text = text} {ls = ls} s offsets tiles count e lent short room =
     let r = counted (read_verdict rows columns text offsets tiles) (tile_count rows columns text) count e in
     let read_as : ls ≡ sheet_lists rows columns text = sym (complete (written_is_sheet s)).lists in

@@ -1,7 +1,6 @@
 -- Constraint sheets in the writer's own form, no field in quotes and each record ended by CR LF, and what it says that a text comes back.
 -- Assumes nothing.
-use Rattle.std.specs.Prelude.{ℕ, suc, ◌≡◌, List, [], ◌∷◌, ◌++◌, length, take}
-use Rattle.units.specs.declared.CountAnswer.TheVariants.{Count}
+use Rattle.std.specs.Prelude.{ℕ, suc, ◌≡◌, List, [], ◌∷◌, ◌++◌, length, take, Ok}
 use Rattle.sheet_cells.specs.Cells.{front}
 use Rattle.sheet.specs.Read.{offsets_after, tiles_after}
 use Rattle.sheet.specs.Write.{write_answer, text_after}
@@ -23,6 +22,6 @@ pub data WrittenSheet (columns : ℕ) : (rows : ℕ) → (text : List ℕ) → (
 -- tiles as the reading counted, answers the text's length, and what it was lent begins with the text and goes on as it was.
 pub record ComesBack (rows columns : ℕ) (text offsets tiles : List ℕ) (count : ℕ) (lent : List ℕ) : Type 0 where
   pub answers :
-      write_answer rows columns (offsets_after rows columns text offsets tiles) (take count (tiles_after rows columns text offsets tiles)) lent ≡ Count (length text)
+      write_answer rows columns (offsets_after rows columns text offsets tiles) (take count (tiles_after rows columns text offsets tiles)) lent ≡ Ok (length text)
   pub leaves :
       text_after rows columns (offsets_after rows columns text offsets tiles) (take count (tiles_after rows columns text offsets tiles)) lent ≡ front text lent
