@@ -1,18 +1,17 @@
 -- Laws of entries that are appended: none, one, and some after others. Assumes nothing.
 use Prim.Native.Nat.{ℕ, suc, ◌+◌, ◌-◌, ◌≤◌, min}
-use mathlib.Core.Bool.{Bool, true, false, cond}
 use mathlib.Core.List.{List, [], ◌∷◌, ◌++◌, map, map-append, flatten, append_assoc, append-nil}
 use mathlib.Core.Path.{◌≡◌, refl, sym, ap, ◌∙◌}
 use native.Mathlib.Nat.{add-zero}
 use native.Mathlib.Omega.{arith}
-use borrow.Author.Tests.{eq-eqb, ne_eqb, ltb-true, ltb-false}
-use lib.Dec.{eqb, ltb}
-use lib.ListN.{length, take, drop, set, length-append, length-map, length-take, length-drop}
+use lib.ListN.{length, set, length-append, length-map}
 use lib.Seq.{sets, length-sets, paste-zero}
 use Rattle.text_put.specs.Puts.{Put, written}
 use Rattle.text_put.proofs.Putting.{put_as, then_put, put_long}
+use Rattle.sheet_fields.specs.Fields.{unquoted}
+use Rattle.sheet_fields.proofs.Quotes.{unquoted_blank}
 use Rattle.sheet_names.specs.Appended.{flag_of, ends, Appended}
-use Rattle.sheet_names.specs.declared.Entries.{Entries}
+use Rattle.sheet_names.specs.declared.Laid.{Laid}
 
 -- ---- lists in two parts
 
@@ -40,7 +39,7 @@ ends_append room at (x ∷ xs) ys h =
 
 -- ---- none, and one
 
-module _ (out offsets present : List ℕ) (start : Entries) where
+module _ (out offsets present : List ℕ) (start : Laid) where
   pub append_none : start.bytes ≤ length out → Appended out offsets present start [] start out offsets present
   unfolding flatten ends written
   append_none h =
@@ -63,26 +62,18 @@ module _ (out offsets present : List ℕ) (start : Entries) where
         flagged = rw e;
       }
 
--- the flag of what stands between two places
-pub flag_is : (text : List ℕ) (from to : ℕ) → to ≤ length text → (content : List ℕ) → eqb (length content) 0 ≡ eqb (length (take (to - from) (drop from text))) 0
-    → cond (ltb from to) 1 0 ≡ flag_of content
+-- quotes that are taken off leave no blank
+pub flag_unquoted : (raw : List ℕ) → flag_of raw ≡ flag_of (unquoted raw)
 unfolding flag_of
-flag_is text from to h content e = rw e (go (ltb from to) refl)
-  where
-    long : length (take (to - from) (drop from text)) ≡ to - from
-    long = rw (length-take, length-drop) (omega arith)
-
-    go : (q : Bool) → ltb from to ≡ q → ◌≡◌ {A = ℕ} (cond q 1 0) (cond (eqb (length (take (to - from) (drop from text))) 0) 0 1)
-    go true k = let some = ltb-true from to k in rw (ne_eqb (length (take (to - from) (drop from text))) 0 (let l = long in omega arith))
-    go false k = let none = ltb-false from to k in rw (eq-eqb (length (take (to - from) (drop from text))) 0 (let l = long in omega arith))
+flag_unquoted raw = rw (unquoted_blank raw) refl
 
 -- ---- some after others
 
-pub append_as : {out offsets present : List ℕ} {start : Entries} {xs ys : List (List ℕ)} {stop : Entries} {out' offsets' present' : List ℕ}
+pub append_as : {out offsets present : List ℕ} {start : Laid} {xs ys : List (List ℕ)} {stop : Laid} {out' offsets' present' : List ℕ}
     → xs ≡ ys → Appended out offsets present start xs stop out' offsets' present' → Appended out offsets present start ys stop out' offsets' present'
 append_as e a = rw (← e) a
 
-module _ {out offsets present : List ℕ} {start : Entries} {xs : List (List ℕ)} {stop : Entries} {out' offsets' present' : List ℕ}
+module _ {out offsets present : List ℕ} {start : Laid} {xs : List (List ℕ)} {stop : Laid} {out' offsets' present' : List ℕ}
     (a : Appended out offsets present start xs stop out' offsets' present') where
   pub appended_out : length out' ≡ length out
   appended_out = put_long a.laid
@@ -96,7 +87,7 @@ module _ {out offsets present : List ℕ} {start : Entries} {xs : List (List ℕ
   pub appended_within : stop.bytes ≤ length out'
   appended_within = let p = a.laid.place in let l = appended_out in omega arith
 
-  pub then_append : start.bytes ≤ length out → {ys : List (List ℕ)} {end : Entries} {out'' offsets'' present'' : List ℕ}
+  pub then_append : start.bytes ≤ length out → {ys : List (List ℕ)} {end : Laid} {out'' offsets'' present'' : List ℕ}
       → Appended out' offsets' present' stop ys end out'' offsets'' present'' → Appended out offsets present start (xs ++ ys) end out'' offsets'' present''
   then_append h {ys} b =
       let at : stop.entries + 1 ≡ (start.entries + 1) + length (ends (length out) start.bytes xs) = let k = a.counted in let l = length_ends (length out) start.bytes xs in omega arith in

@@ -7,6 +7,7 @@ use native.Mathlib.Numerals.{add-one}
 use native.Mathlib.Omega.{arith}
 use lib.ListN.{length, take, drop, length-append}
 use Rattle.sheet_fields.specs.Fields.{content, after, unquoted, field_at}
+use Rattle.sheet_fields.specs.Answers.{places}
 use Rattle.sheet_fields.specs.declared.Field.{Field}
 use Rattle.sheet_fields.specs.Runs.{contents, past, bytes_in}
 use Rattle.sheet_fields.proofs.Bounds.{raw_at}
@@ -14,11 +15,11 @@ use Rattle.sheet_fields.proofs.Quotes.{content_unquoted}
 use Rattle.sheet_fields.proofs.Runs.{place_within, past_at, past_add, contents_add, bytes_add}
 use Rattle.sheet_records.specs.Tables.{columns}
 use Rattle.sheet_names.specs.Appended.{Appended}
-use Rattle.sheet_names.specs.declared.Entries.{Entries}
+use Rattle.sheet_names.specs.declared.Laid.{Laid}
 use Rattle.sheet_names.proofs.Appending.{append_none, append_as, then_append}
 
 -- what the bytes between a field's places stand for is its content
-pub content_at : (text : List ℕ) (at : ℕ) (f : Field) → f ≡ field_at text at → unquoted (take (f.to - f.from) (drop f.from text)) ≡ content (drop at text)
+pub content_at : (text : List ℕ) (at : ℕ) (f : Field) → f ≡ places (field_at text at) → unquoted (take (f.to - f.from) (drop f.from text)) ≡ content (drop at text)
 content_at text at f e = rw (e, raw_at text at) (content_unquoted (drop at text))
 
 -- ---- how many entries there are
@@ -56,17 +57,17 @@ more_columns (suc i) width from count t =
 -- ---- the fields of a record
 
 -- the first i of so many fields are appended
-pub record InFields (count : ℕ) (text : List ℕ) (at : ℕ) (out offsets present : List ℕ) (start stop : Entries) (next i : ℕ) (out' offsets' present' : List ℕ) : Type 0 where
+pub record InFields (count : ℕ) (text : List ℕ) (at : ℕ) (out offsets present : List ℕ) (start stop : Laid) (next i : ℕ) (out' offsets' present' : List ℕ) : Type 0 where
   pub within : i ≤ count
   pub place : next ≡ at + bytes_in i (drop at text)
   pub done : Appended out offsets present start (contents i (drop at text)) stop out' offsets' present'
 
-module _ (count : ℕ) (text : List ℕ) (at : ℕ) (out offsets present : List ℕ) (start : Entries) (h : at ≤ length text) (b : start.bytes ≤ length out) where
+module _ (count : ℕ) (text : List ℕ) (at : ℕ) (out offsets present : List ℕ) (start : Laid) (h : at ≤ length text) (b : start.bytes ≤ length out) where
   pub fields_start : InFields count text at out offsets present start start at 0 out offsets present
   unfolding contents bytes_in
   fields_start = record { within = omega arith; place = omega arith; done = append_none out offsets present start b }
 
-  module _ (stop : Entries) (next i : ℕ) (out' offsets' present' : List ℕ) (s : InFields count text at out offsets present start stop next i out' offsets' present') where
+  module _ (stop : Laid) (next i : ℕ) (out' offsets' present' : List ℕ) (s : InFields count text at out offsets present start stop next i out' offsets' present') where
     pub fields_inside : next ≤ length text
     fields_inside = place_within text at i next h s.place
 
@@ -76,7 +77,7 @@ module _ (count : ℕ) (text : List ℕ) (at : ℕ) (out offsets present : List 
     pub fields_end : count ≤ i → Appended out offsets present start (contents count (drop at text)) stop out' offsets' present'
     fields_end k = let all : i ≡ count = let w = s.within in omega arith in rw all at s.done
 
-    pub fields_go_on : i < count → (f : Field) → f ≡ field_at text next → {r : Entries} {out'' offsets'' present'' : List ℕ}
+    pub fields_go_on : i < count → (f : Field) → f ≡ places (field_at text next) → {r : Laid} {out'' offsets'' present'' : List ℕ}
         → Appended out' offsets' present' stop (unquoted (take (f.to - f.from) (drop f.from text)) ∷ []) r out'' offsets'' present''
         → InFields count text at out offsets present start r f.next (i + 1) out'' offsets'' present''
     unfolding bytes_in
@@ -93,18 +94,18 @@ module _ (count : ℕ) (text : List ℕ) (at : ℕ) (out offsets present : List 
 -- ---- the records of a sheet
 
 -- the columns of the first i of so many records are appended
-pub record InColumns (records width from count : ℕ) (text out offsets present : List ℕ) (start stop : Entries) (next i : ℕ) (out' offsets' present' : List ℕ) : Type 0 where
+pub record InColumns (records width from count : ℕ) (text out offsets present : List ℕ) (start stop : Laid) (next i : ℕ) (out' offsets' present' : List ℕ) : Type 0 where
   pub within : i ≤ records
   pub inside : next ≤ length text
   pub here : drop next text ≡ past (i * width) text
   pub done : Appended out offsets present start (columns i width from count text) stop out' offsets' present'
 
-module _ (records width from count : ℕ) (text out offsets present : List ℕ) (start : Entries) (b : start.bytes ≤ length out) where
+module _ (records width from count : ℕ) (text out offsets present : List ℕ) (start : Laid) (b : start.bytes ≤ length out) where
   pub columns_start : InColumns records width from count text out offsets present start start 0 0 out offsets present
   unfolding columns past
   columns_start = record { within = omega arith; inside = omega arith; here = rw (zero-mul width); done = append_none out offsets present start b }
 
-  module _ (stop : Entries) (next i : ℕ) (out' offsets' present' : List ℕ) (s : InColumns records width from count text out offsets present start stop next i out' offsets' present') where
+  module _ (stop : Laid) (next i : ℕ) (out' offsets' present' : List ℕ) (s : InColumns records width from count text out offsets present start stop next i out' offsets' present') where
     -- the first field to be taken stands in the text
     pub first_inside : (first : ℕ) → first ≡ next + bytes_in from (drop next text) → first ≤ length text
     first_inside first e = place_within text next from first s.inside e
@@ -122,7 +123,7 @@ module _ (records width from count : ℕ) (text out offsets present : List ℕ) 
     columns_end k = let all : i ≡ records = let w = s.within in omega arith in rw all at s.done
 
     pub columns_go_on : i < records → (first after : ℕ) → first ≡ next + bytes_in from (drop next text) → after ≡ next + bytes_in width (drop next text)
-        → {r : Entries} {out'' offsets'' present'' : List ℕ} → Appended out' offsets' present' stop (contents count (drop first text)) r out'' offsets'' present''
+        → {r : Laid} {out'' offsets'' present'' : List ℕ} → Appended out' offsets' present' stop (contents count (drop first text)) r out'' offsets'' present''
         → InColumns records width from count text out offsets present start r after (i + 1) out'' offsets'' present''
     columns_go_on k first after e f a =
         let front : drop first text ≡ past from (past (i * width) text) = rw e (past_at from text next ∙ ap (past from) s.here) in

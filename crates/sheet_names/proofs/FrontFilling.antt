@@ -9,19 +9,19 @@ use lib.Seq.{get_or-set_same}
 use Rattle.text_entries.specs.Entries.{entry_of}
 use Rattle.text_put.specs.Puts.{Put}
 use Rattle.sheet_names.specs.Appended.{flag_of, Appended}
-use Rattle.sheet_names.specs.declared.Entries.{Entries}
+use Rattle.sheet_names.specs.declared.Laid.{Laid}
 use Rattle.sheet_names.proofs.Appending.{append_one, then_append}
 use Rattle.sheet_names.proofs.ReadBack.{reads_back}
 use Rattle.sheet_names.specs.FrontFilled.{no_entries, FrontFilled}
 
 -- entries that were appended to none
-pub filled : (offsets : List ℕ) (bytes : ℕ) (entries : List (List ℕ)) {text present : List ℕ} {stop : Entries} {text' offsets' present' : List ℕ}
+pub filled : (offsets : List ℕ) (bytes : ℕ) (entries : List (List ℕ)) {text present : List ℕ} {stop : Laid} {text' offsets' present' : List ℕ}
     → Appended text (set offsets 0 bytes) present (no_entries bytes) entries stop text' offsets' present'
     → FrontFilled text offsets present bytes entries stop.bytes text' offsets' present'
 filled offsets bytes entries a = record { counted = omega arith; laid = a.laid; ended = a.ended; flagged = a.flagged }
 
 -- an entry that was put by hand, and entries that were appended to it
-pub filled_after : (text offsets present first : List ℕ) (entries : List (List ℕ)) {bytes : ℕ} {text₁ : List ℕ} {stop : Entries} {text' offsets' present' : List ℕ}
+pub filled_after : (text offsets present first : List ℕ) (entries : List (List ℕ)) {bytes : ℕ} {text₁ : List ℕ} {stop : Laid} {text' offsets' present' : List ℕ}
     → 1 ≡ flag_of first → Put text 0 first bytes text₁
     → Appended text₁ (set (set offsets 0 0) 1 bytes) (set present 0 1) (record { entries = 1; bytes = bytes }) entries stop text' offsets' present'
     → FrontFilled text offsets present 0 (first ∷ entries) stop.bytes text' offsets' present'

@@ -10,7 +10,7 @@ use lib.ListN.{length, take, drop, length-append, length-map}
 use lib.Seq.{sets, sets-eq, length-take-le, take_all, take_at, take-length, take-paste}
 use Rattle.text_put.specs.Puts.{Put, written}
 use Rattle.sheet_names.specs.Appended.{flag_of, ends, Appended}
-use Rattle.sheet_names.specs.declared.Entries.{Entries}
+use Rattle.sheet_names.specs.declared.Laid.{Laid}
 use Rattle.sheet_names.proofs.Appending.{length_ends}
 
 -- ---- one list
@@ -47,7 +47,7 @@ put_front {old} {at} {text} {next} p h =
 
 -- ---- the fronts of what was appended to
 
-module _ {out offsets present : List ℕ} {start : Entries} {entries : List (List ℕ)} {stop : Entries} {out' offsets' present' : List ℕ}
+module _ {out offsets present : List ℕ} {start : Laid} {entries : List (List ℕ)} {stop : Laid} {out' offsets' present' : List ℕ}
     (a : Appended out offsets present start entries stop out' offsets' present') where
   pub front_text : start.bytes ≤ length out → take stop.bytes out' ≡ take start.bytes out ++ take (length out - start.bytes) (flatten entries)
   front_text h = put_front a.laid h

@@ -9,7 +9,7 @@ use lib.Seq.{sets, sets-eq, length-take-le, get_or-take, get_or-append-add, drop
 use Rattle.text_entries.specs.Entries.{entry_of}
 use Rattle.text_put.specs.Puts.{written}
 use Rattle.sheet_names.specs.Appended.{ends, Appended}
-use Rattle.sheet_names.specs.declared.Entries.{Entries}
+use Rattle.sheet_names.specs.declared.Laid.{Laid}
 use Rattle.sheet_names.proofs.Appending.{length_ends}
 
 -- ---- what was stored, by its place
@@ -61,7 +61,7 @@ end_at room at (e ∷ es) (suc k) h f =
 
 -- ---- the theorem
 
-module _ {out offsets present : List ℕ} {start : Entries} {entries : List (List ℕ)} {stop : Entries} {out' offsets' present' : List ℕ}
+module _ {out offsets present : List ℕ} {start : Laid} {entries : List (List ℕ)} {stop : Laid} {out' offsets' present' : List ℕ}
     (a : Appended out offsets present start entries stop out' offsets' present')
     (fits : start.bytes + length (flatten entries) ≤ length out)
     (room : start.entries + length entries < length offsets)

@@ -5,10 +5,9 @@ use mathlib.Core.List.{List, [], ◌∷◌, ◌++◌, append_assoc, append-nil}
 use mathlib.Core.Path.{◌≡◌, refl, sym, ap, ◌∙◌}
 use native.Mathlib.Nat.{add-zero}
 use native.Mathlib.Omega.{arith}
-use borrow.Author.Tests.{eq-eqb, ne_eqb}
 use lib.Dec.{eqb}
-use lib.ListN.{length, get_or, drop, length-drop, drop_of_length-le, get_or-eq_default}
-use lib.Seq.{drop-drop, get_or-drop, paste-zero}
+use lib.ListN.{length, get_or, take, drop, length-drop, drop_of_length-le}
+use lib.Seq.{take-length, drop-drop, get_or-drop, paste-zero}
 use Rattle.text_put.specs.Puts.{Put, written}
 use Rattle.text_put.proofs.Putting.{put_as, then_put, put_long}
 use Rattle.sheet_fields.specs.Fields.{unquoted}
@@ -43,31 +42,12 @@ step_within (a ∷ b ∷ t) h = go (eqb a 34 && eqb b 34)
     go true = omega arith
     go false = omega arith
 
--- ---- the step by the bytes at a place
+first : (raw : List ℕ) (i : ℕ) → get_or (drop i raw) 0 0 ≡ get_or raw i 0
+first raw i = get_or-drop i raw 0 0 ∙ ap (λ (n : ℕ). get_or raw n 0) (add-zero i)
 
-module _ (raw : List ℕ) (i : ℕ) where
-  first : get_or (drop i raw) 0 0 ≡ get_or raw i 0
-  first = get_or-drop i raw 0 0 ∙ ap (λ (n : ℕ). get_or raw n 0) (add-zero i)
-
-  second : get_or (drop i raw) 1 0 ≡ get_or raw (i + 1) 0
-  second = get_or-drop i raw 1 0
-
-  pub step_other : (get_or raw i 0 ≡ 34 → ⊥) → 1 ≡ pair_step (drop i raw)
-  unfolding pair_step
-  step_other n = rw (first, ne_eqb (get_or raw i 0) 34 n)
-
-  module _ (quote : get_or raw i 0 ≡ 34) where
-    pub step_last : length raw ≤ i + 1 → 1 ≡ pair_step (drop i raw)
-    unfolding pair_step
-    step_last k = rw (first, second, get_or-eq_default raw 0 k, eq-eqb (get_or raw i 0) 34 quote)
-
-    pub step_alone : (get_or raw (i + 1) 0 ≡ 34 → ⊥) → 1 ≡ pair_step (drop i raw)
-    unfolding pair_step
-    step_alone n = rw (first, second, ne_eqb (get_or raw (i + 1) 0) 34 n, eq-eqb (get_or raw i 0) 34 quote)
-
-    pub step_pair : get_or raw (i + 1) 0 ≡ 34 → 2 ≡ pair_step (drop i raw)
-    unfolding pair_step
-    step_pair e = rw (first, second, eq-eqb (get_or raw (i + 1) 0) 34 e, eq-eqb (get_or raw i 0) 34 quote)
+-- the step at what is left
+pub step_at : (raw : List ℕ) (i step : ℕ) → step ≡ pair_step (take (length raw - i) (drop i raw)) → step ≡ pair_step (drop i raw)
+step_at raw i step e = e ∙ ap pair_step (rw (← length-drop i raw) (take-length (drop i raw)))
 
 -- ---- the loop's turns
 

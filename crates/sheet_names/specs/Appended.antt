@@ -3,7 +3,7 @@ use Rattle.std.specs.Prelude.{ℕ, ◌+◌, min, cond, ◌&&◌, ◌≡◌, eqb,
 use mathlib.Core.List.{List, [], ◌∷◌, map, flatten}
 use Rattle.std.proofs.lemmas.List.Edits.{sets}
 use Rattle.text_put.specs.Puts.{Put}
-use Rattle.sheet_names.specs.declared.Entries.{Entries}
+use Rattle.sheet_names.specs.declared.Laid.{Laid}
 
 -- 0 for an entry without a byte, 1 for any other
 unfoldable pub flag_of : List ℕ → ℕ
@@ -16,7 +16,7 @@ ends room at (e ∷ es) = min room (at + length e) ∷ ends room (min room (at +
 
 -- entries were appended to those that were there: all their bytes follow the bytes before, the ends follow the offsets before, and a flag
 -- for each follows the flags before
-pub record Appended (out offsets present : List ℕ) (start : Entries) (entries : List (List ℕ)) (stop : Entries) (out' offsets' present' : List ℕ) : Type 0 where
+pub record Appended (out offsets present : List ℕ) (start : Laid) (entries : List (List ℕ)) (stop : Laid) (out' offsets' present' : List ℕ) : Type 0 where
   pub counted : stop.entries ≡ start.entries + length entries
   pub laid : Put out start.bytes (flatten entries) stop.bytes out'
   pub ended : offsets' ≡ sets offsets (start.entries + 1) (ends (length out) start.bytes entries)

@@ -1,85 +1,80 @@
 // The contents of a sheet's fields as entries of one text: names that are laid one after the other, with the offsets between them.
 #![tactic(auto)]
 
-ghost use Rattle.std.specs.Prelude.{◌≡◌, cond, [], ◌∷◌, ◌+◌, ◌-◌, ◌*◌, ◌≤◌, ◌<◌, ltb, length, take, drop};
+ghost use Rattle.std.specs.Prelude.{◌≡◌, [], ◌∷◌, ◌+◌, ◌*◌, ◌≤◌, ◌<◌, length, drop};
 ghost use Rattle.text_put.specs.Puts.{Put};
 ghost use Rattle.sheet_fields.specs.Fields.{content, unquoted};
 ghost use Rattle.sheet_fields.specs.Runs.{contents};
 ghost use Rattle.sheet_records.specs.Tables.{columns};
-ghost use Rattle.sheet_names.specs.Appended.{Appended, pair_step};
+ghost use Rattle.sheet_names.specs.Appended.{Appended, flag_of, pair_step};
 ghost use Rattle.sheet_names.specs.FrontFilled.{FrontFilled};
 
-use sheet_fields::field_at;
+use sheet_fields::field_or_empty;
 use sheet_records::place_after;
-use text_fronts::least;
 use text_put::put_text;
 
-// How many entries there are, and how many bytes they take.
+// The fields of each record that are read: so many from one on, counted from 0, of a record of `width` fields.
 #[derive(Clone, Copy)]
-pub struct Entries {
+pub struct Columns {
+    pub width: usize,
+    pub from: usize,
+    pub count: usize,
+}
+
+// How many entries were laid, and how many bytes they take.
+#[derive(Clone, Copy)]
+pub struct Laid {
     pub entries: usize,
     pub bytes: usize,
 }
 
-// Appends the fields of each record from one place up to another, counted from 0, in reading order.
+// Appends columns of the records in reading order.
 pub fn put_columns(
     text: &[u8],
     records: usize,
-    width: usize,
-    from: usize,
-    to: usize,
+    wanted: Columns,
     out: &mut [u8],
     offsets: &mut [usize],
     present: &mut [u8],
-    start: Entries,
-) -> Entries
-    requires from_le_to { from ≤ to }
+    start: Laid,
+) -> Laid
     requires bytes_in_bounds { start.bytes ≤ length out.old }
-    requires from_in_bounds { start.entries + records * (to - from) < length offsets.old }
-    requires from_in_bounds_2 { start.entries + records * (to - from) ≤ length present.old }
+    requires from_in_bounds { start.entries + records * wanted.count < length offsets.old }
+    requires from_in_bounds_2 { start.entries + records * wanted.count ≤ length present.old }
     ensures { Appended out.old offsets.old present.old start
-        (columns records width from (to - from) text.now)
+        (columns records wanted.width wanted.from wanted.count text.now)
         result out.new offsets.new present.new }
 {
     let mut stop = start;
     let mut next = 0;
-    let mut i = 0;
-    while i < records {
-        let first = place_after(text, next, from);
-        stop = put_fields(text, first, to - from, out, offsets, present, stop);
-        next = place_after(text, next, width);
-        i += 1;
+    for _ in 0..records {
+        let first = place_after(text, next, wanted.from);
+        stop = put_fields(text, first, wanted.count, out, offsets, present, stop);
+        next = place_after(text, next, wanted.width);
     }
     stop
 }
 
-// Puts the fields of each record from one place up to another, counted from 0, as the first entries of a text that has so many bytes,
-// and answers where they end.
+// Puts columns of the records as the first entries of a text that has so many bytes, and answers where they end.
 pub fn fill_columns(
     text: &[u8],
     records: usize,
-    width: usize,
-    from: usize,
-    to: usize,
+    wanted: Columns,
     out: &mut [u8],
     bytes: usize,
     offsets: &mut [usize],
     present: &mut [u8],
 ) -> usize
-    requires from_le_to { from ≤ to }
     requires bytes_in_bounds { bytes ≤ length out.old }
-    requires from_in_bounds { records * (to - from) < length offsets.old }
-    requires from_in_bounds_2 { records * (to - from) ≤ length present.old }
+    requires from_in_bounds { records * wanted.count < length offsets.old }
+    requires from_in_bounds_2 { records * wanted.count ≤ length present.old }
     ensures { FrontFilled out.old offsets.old present.old bytes
-        (columns records width from (to - from) text.now)
+        (columns records wanted.width wanted.from wanted.count text.now)
         result out.new offsets.new present.new }
 {
     offsets[0] = bytes;
-    let start = Entries {
-        entries: 0,
-        bytes: bytes,
-    };
-    put_columns(text, records, width, from, to, out, offsets, present, start).bytes
+    let start = Laid { entries: 0, bytes };
+    put_columns(text, records, wanted, out, offsets, present, start).bytes
 }
 
 // Appends so many fields from a place on.
@@ -90,8 +85,8 @@ fn put_fields(
     out: &mut [u8],
     offsets: &mut [usize],
     present: &mut [u8],
-    start: Entries,
-) -> Entries
+    start: Laid,
+) -> Laid
     requires at_in_bounds { at ≤ length text.now }
     requires bytes_in_bounds { start.bytes ≤ length out.old }
     requires count_in_bounds { start.entries + count < length offsets.old }
@@ -102,49 +97,41 @@ fn put_fields(
 {
     let mut stop = start;
     let mut next = at;
-    let mut i = 0;
-    while i < count {
-        let f = field_at(text, next);
-        stop = put_entry(text, f.from, f.to, out, offsets, present, stop);
-        next = f.next;
-        i += 1;
+    for _ in 0..count {
+        let field = field_or_empty(text, next);
+        stop = put_entry(field.raw(text), out, offsets, present, stop);
+        next = field.next;
     }
     stop
 }
 
-// Appends what the bytes between two places stand for.
+// Appends what a field's bytes stand for.
 fn put_entry(
-    text: &[u8],
-    from: usize,
-    to: usize,
+    raw: &[u8],
     out: &mut [u8],
     offsets: &mut [usize],
     present: &mut [u8],
-    start: Entries,
-) -> Entries
-    requires from_le_to { (from ≤ to) × (to ≤ length text.now) }
+    start: Laid,
+) -> Laid
     requires entries_in_bounds { start.entries + 1 < length offsets.old }
     requires entries_in_bounds_2 { start.entries < length present.old }
     ensures { Appended out.old offsets.old present.old start
-        (unquoted (take (to - from) (drop from text.now)) ∷ [])
+        (unquoted raw.now ∷ [])
         result out.new offsets.new present.new }
 {
-    let bytes = put_between(text, from, to, out, start.bytes);
-    let entry = start.entries;
-    let next = entry + 1;
-    present[entry] = flag(from, to);
-    offsets[next] = bytes;
-    Entries {
-        entries: next,
-        bytes: bytes,
-    }
+    let bytes = put_unquoted(raw, out, start.bytes);
+    let entries = start.entries + 1;
+    present[start.entries] = flag(raw);
+    offsets[entries] = bytes;
+    Laid { entries, bytes }
 }
 
-// 1 where bytes stand between two places, else 0.
-fn flag(from: usize, to: usize) -> u8
-    ensures { result ≡ cond (ltb from to) 1 0 }
+// 1 where there are bytes, else 0.
+#[tactic(auto, unfolding(crate::specs::Appended::flag_of))]
+fn flag(raw: &[u8]) -> u8
+    ensures { result ≡ flag_of raw.now }
 {
-    if from < to { 1 } else { 0 }
+    if raw.is_empty() { 0 } else { 1 }
 }
 
 // Puts the content of the field at a place, as far as it fits, and answers the next place.
@@ -152,52 +139,29 @@ pub fn put_content(text: &[u8], at: usize, out: &mut [u8], next: usize) -> usize
     requires { at ≤ length text.now }
     ensures { Put out.old next (content (drop at text.now)) result out.new }
 {
-    let f = field_at(text, at);
-    put_between(text, f.from, f.to, out, next)
-}
-
-// Puts what the bytes between two places stand for.
-fn put_between(text: &[u8], from: usize, to: usize, out: &mut [u8], next: usize) -> usize
-    requires { (from ≤ to) × (to ≤ length text.now) }
-    ensures { Put out.old next (unquoted (take (to - from) (drop from text.now))) result out.new }
-{
-    put_unquoted(&text[from..to], out, next)
+    put_unquoted(field_or_empty(text, at).raw(text), out, next)
 }
 
 // Puts a content byte by byte, one quote for two.
 fn put_unquoted(raw: &[u8], out: &mut [u8], at: usize) -> usize
     ensures { Put out.old at (unquoted raw.now) result out.new }
 {
-    let mut next = least(out.len(), at);
-    let mut i = 0;
-    while i < raw.len() {
-        next = put_byte(out, next, raw[i]);
-        i += pair_step(raw, i);
+    let mut next = at.min(out.len());
+    let mut passed = 0;
+    while passed < raw.len() {
+        next = put_text(out, next, &[raw[passed]]);
+        passed += pair_step(&raw[passed..]);
     }
     next
 }
 
-// Puts one byte.
-fn put_byte(out: &mut [u8], at: usize, byte: u8) -> usize
-    ensures { Put out.old at (byte ∷ []) result out.new }
+// How many bytes stand for the first one: two quotes side by side stand for one.
+#[tactic(auto, unfolding(crate::specs::Appended::pair_step))]
+fn pair_step(rest: &[u8]) -> usize
+    ensures { result ≡ pair_step rest.now }
 {
-    let text = [byte];
-    put_text(out, at, &text)
-}
-
-// How many bytes stand for the one at a place: two quotes side by side stand for one.
-fn pair_step(raw: &[u8], i: usize) -> usize
-    requires { i < length raw.now }
-    ensures { result ≡ pair_step (drop i raw.now) }
-{
-    if raw[i] != b'"' {
-        return 1;
+    match rest {
+        [b'"', b'"', ..] => 2,
+        _ => 1,
     }
-    if raw.len() <= i + 1 {
-        return 1;
-    }
-    if raw[i + 1] != b'"' {
-        return 1;
-    }
-    2
 }

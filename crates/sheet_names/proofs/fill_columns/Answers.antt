@@ -1,5 +1,4 @@
 -- `sheet_names::fill_columns` meets its contract: the columns are appended to no entries. Assumes nothing.
-use Prim.Native.Nat.{◌-◌}
 use mathlib.Core.Path.{◌∙◌}
 use native.Mathlib.Omega.{arith}
 use lib.ListN.{length-set}
@@ -12,7 +11,6 @@ pub put_columns-requires : goal.put_columns-requires
 put_columns-requires c = let pre = c.requires in
     let long = length-set c.args.offsets.now 0 c.args.bytes in
     record {
-      from_le_to = pre.from_le_to;
       bytes_in_bounds = pre.bytes_in_bounds;
       from_in_bounds = omega arith;
       from_in_bounds_2 = omega arith;
@@ -23,4 +21,4 @@ shape_of-offsets c = appended_offsets c.put_columns.ensures ∙ simp length-set
 
 pub returns : goal.returns
 returns c = let a = c.args in
-    filled a.offsets.now a.bytes (columns a.records a.width a.from (a.to - a.from) a.text.now) c.put_columns.ensures
+    filled a.offsets.now a.bytes (columns a.records a.wanted.width a.wanted.from a.wanted.count a.text.now) c.put_columns.ensures

@@ -5,10 +5,10 @@ use Rattle.sheet_fields.proofs.Bounds.{field_at_within}
 use Rattle.sheet_names.proofs.Filling.{content_at}
 use Rattle.sheet_names.proofs.put_content.Goals as goal
 
-pub put_between-requires : goal.put_between-requires
-put_between-requires c = let w = field_at_within c.args.text.now c.args.at c.requires in
-    rw c.field_at-f.ensures (w.ordered, let on = w.onward in let end = w.ends in omega arith)
+pub raw-requires : goal.raw-requires
+raw-requires c = let w = field_at_within c.args.text.now c.args.at c.requires in
+    rw c.field_or_empty.ensures (w.ordered, let on = w.onward in let end = w.ends in omega arith)
 
 pub returns : goal.returns
 returns c = let a = c.args in
-    put_as (content_at a.text.now a.at c.field_at-f.result c.field_at-f.ensures) c.put_between.ensures
+    put_as (content_at a.text.now a.at c.field_or_empty.result c.field_or_empty.ensures) (rw c.raw.ensures at c.put_unquoted.ensures)

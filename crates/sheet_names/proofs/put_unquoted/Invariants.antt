@@ -4,8 +4,8 @@ use lib.ListN.{length}
 use Rattle.sheet_names.proofs.Unquoting.{Unquoting}
 use Rattle.sheet_names.proofs.put_unquoted.Given as goal
 
-abbrev pub invariant-loop-i : goal.invariant-loop-i
-invariant-loop-i l = Unquoting l.raw l.initial.out l.at l.out l.next l.i
+abbrev pub invariant-loop-passed : goal.invariant-loop-passed
+invariant-loop-passed l = Unquoting l.raw l.initial.out l.at l.out l.next l.passed
 
-abbrev pub decreases-loop-i : goal.decreases-loop-i
-decreases-loop-i l = length l.raw - l.i
+abbrev pub decreases-loop-passed : goal.decreases-loop-passed
+decreases-loop-passed l = length l.raw - l.passed
