@@ -8,7 +8,7 @@ pub use bay_glues::{
     BOTTOM_GLUE_INDEX, EAST_GLUE_INDEX, NORTH_GLUE_INDEX, SOUTH_GLUE_INDEX, WEST_GLUE_INDEX,
     scaffold_glue_at, strand_glues_of,
 };
-pub use bay_system::{Sizes, check_system};
+pub use bay_system::{Sizes, System, check_system};
 pub use name_energy_keys::energy_keys;
 pub use name_key_values::KeyValues;
 pub use name_keys::KeyNames;
