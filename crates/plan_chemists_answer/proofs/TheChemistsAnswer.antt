@@ -5,7 +5,6 @@ use mathlib.Core.List.{List}
 use lib.Ieee.{Float}
 use lib.ListN.{length, get_or, take}
 use native.Mathlib.Nat.{zero-add}
-use native.Mathlib.Omega.{arith}
 use Rattle.std.proofs.Common.{Ok, Err}
 use Rattle.units.specs.Refusals.{Verdict, passes, answer, ◌▷◌, if_passes}
 use Rattle.units.proofs.Verdicts.{first_passes, rest_passes}
