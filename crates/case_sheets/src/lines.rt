@@ -3,7 +3,7 @@ use case_answer_lines::{put_value, refused_with_tables};
 use case_answer_lists::{put_coded, put_numbers, put_small_numbers};
 use case_lent::{all_bytes, all_numbers, all_small_numbers, put_rest};
 use case_text::front;
-use units::CountAnswer;
+use units::Refusal;
 
 // So many numbers, and the two tables that were written.
 fn put_lists(out: &mut [u8], count: usize, offsets: &[usize], tiles: &[u32]) -> usize {
@@ -16,14 +16,16 @@ fn put_lists(out: &mut [u8], count: usize, offsets: &[usize], tiles: &[u32]) -> 
 // What reading a sheet gave.
 pub(crate) fn put_reading(
     out: &mut [u8],
-    answer: CountAnswer,
+    answer: Result<usize, Refusal>,
     offsets: &[usize],
     tiles: &[u32],
 ) -> usize {
-    let kept = all_numbers(offsets, 0, 7) && all_small_numbers(tiles, 0, 7);
     match answer {
-        CountAnswer::Refused(r) => refused_with_tables(out, r, kept),
-        CountAnswer::Count(count) => put_lists(out, count, offsets, tiles),
+        Ok(count) => put_lists(out, count, offsets, tiles),
+        Err(refusal) => {
+            let kept = all_numbers(offsets, 0, 7) && all_small_numbers(tiles, 0, 7);
+            refused_with_tables(out, refusal, kept)
+        }
     }
 }
 
@@ -35,10 +37,9 @@ fn put_sheet(out: &mut [u8], count: usize, text: &[u8]) -> usize {
 }
 
 // What writing a sheet gave.
-pub(crate) fn put_writing(out: &mut [u8], answer: CountAnswer, text: &[u8]) -> usize {
-    let kept = all_bytes(text, 0, 7);
+pub(crate) fn put_writing(out: &mut [u8], answer: Result<usize, Refusal>, text: &[u8]) -> usize {
     match answer {
-        CountAnswer::Refused(r) => refused_with_tables(out, r, kept),
-        CountAnswer::Count(count) => put_sheet(out, count, text),
+        Ok(count) => put_sheet(out, count, text),
+        Err(refusal) => refused_with_tables(out, refusal, all_bytes(text, 0, 7)),
     }
 }
