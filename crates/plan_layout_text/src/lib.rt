@@ -28,11 +28,9 @@ pub fn put_layout(
     let width = widest_bay(layout, names);
     let mut next = at.min(out.len());
     let mut bay = 0;
-    let mut left = rows;
-    while 0 < left {
+    for _ in 0..rows {
         next = put_row(layout, names, bay, cols, width, out, next);
-        bay = least_sum(bay, cols, layout.len());
-        left -= 1;
+        bay = bay.saturating_add(cols).min(layout.len());
     }
     next
 }
@@ -53,12 +51,10 @@ fn put_row(
 {
     let mut next = at;
     let mut bay = first;
-    let mut left = cols;
-    while 0 < left {
-        left -= 1;
+    for left in (0..cols).rev() {
         let tile = tile_at(layout, bay);
         next = put_bay(names, tile, width, left, out, next);
-        bay = least_sum(bay, 1, layout.len());
+        bay = bay.saturating_add(1).min(layout.len());
     }
     put_text(out, next, b"\n")
 }
@@ -97,23 +93,8 @@ fn put_spaces(from: usize, to: usize, out: &mut [u8], at: usize) -> usize
     ensures { Put out.old at (spaces (to - from)) result out.new }
 {
     let mut next = at;
-    let mut i = from;
-    while i < to {
+    for _ in from..to {
         next = put_text(out, next, b" ");
-        i += 1;
     }
     next
-}
-
-// The sum of two numbers, or a limit that it passes.
-fn least_sum(a: usize, b: usize, limit: usize) -> usize
-    ensures { result ≡ min (a + b) limit }
-{
-    if limit <= a {
-        return limit;
-    }
-    if limit - a <= b {
-        return limit;
-    }
-    a + b
 }

@@ -1,10 +1,9 @@
--- `plan_layout_text::put_row` meets its contract: the invariant is that what is left of the row ends it. Assumes nothing.
+-- `plan_layout_text::put_row` meets its contract: each turn puts one bay. Assumes nothing.
 use mathlib.Core.List.{[], ◌∷◌}
-use mathlib.Core.Path.{◌∙◌}
 use native.Mathlib.Omega.{arith}
 use lib.ListN.{drop}
 use Rattle.name_strands.specs.Names.{strand_names_of}
-use Rattle.text_put.proofs.Putting.{put_long, ending_starts, last_part}
+use Rattle.text_put.proofs.Putting.{ending_starts, last_part}
 use Rattle.plan_layout_text.specs.Grid.{row_text}
 use Rattle.plan_layout_text.proofs.Lines.{row_goes_on, row_end}
 use Rattle.plan_layout_text.proofs.put_row.Goals as goal
@@ -13,19 +12,13 @@ pub loop-left-init : goal.loop-left-init
 loop-left-init c = let a = c.args in
     ending_starts (row_text (strand_names_of a.names.now) a.width (drop a.first a.layout.now) a.cols) c.requires
 
-pub loop-left-smaller : goal.loop-left-smaller
-loop-left-smaller c = omega (arith, c.loop-left-test.true)
-
 pub loop-left-preserved : goal.loop-left-preserved
 loop-left-preserved c = let a = c.args in
     row_goes_on (strand_names_of a.names.now) a.width a.layout.now c.loop-left.bay c.loop-left.left c.loop-left.invariant
-    c.loop-left-test.true c.tile_at-tile.ensures c.put_bay-next.ensures c.least_sum-bay.ensures
-
-pub shape_of-out : goal.shape_of-out
-shape_of-out c = put_long c.put_text.ensures ∙ c.loop-left.invariant.long
+    (omega (arith, c.loop-left-test.true)) c.tile_at-tile.ensures c.put_bay-next.ensures (omega (arith, c.saturating_add.ensures, c.min-bay.ensures))
 
 pub returns : goal.returns
 returns c = let a = c.args in
     last_part c.loop-left.invariant (10 ∷ [])
-    (row_end (strand_names_of a.names.now) a.width (drop c.loop-left.bay a.layout.now) c.loop-left.left c.loop-left-test.false)
+    (row_end (strand_names_of a.names.now) a.width (drop c.loop-left.bay a.layout.now) c.loop-left.left (omega (arith, c.loop-left-test.false)))
     c.put_text.ensures

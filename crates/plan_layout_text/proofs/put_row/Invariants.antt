@@ -1,4 +1,4 @@
--- `plan_layout_text::put_row` meets its contract: the invariant is that what is left of the row ends it. Assumes nothing.
+-- `plan_layout_text::put_row`: what is left of the row ends it. Assumes nothing.
 use lib.ListN.{drop}
 use Rattle.name_strands.specs.Names.{strand_names_of}
 use Rattle.text_put.proofs.Putting.{Ending}
@@ -9,7 +9,3 @@ abbrev pub invariant-loop-left : goal.invariant-loop-left
 invariant-loop-left l =
     let n = strand_names_of l.names in
     Ending l.initial.out l.at (row_text n l.width (drop l.first l.layout) l.cols) (row_text n l.width (drop l.bay l.layout) l.left) l.out l.next
-
-abbrev pub decreases-loop-left : goal.decreases-loop-left
-decreases-loop-left l =
-    l.left
