@@ -7,7 +7,7 @@ ghost use Rattle.case_text.specs.Fields.{call_name};
 ghost use Rattle.case_replies.specs.Replies.{is_known};
 ghost use Rattle.case_system_calls.specs.Calls.{knows};
 
-use bay_system::Sizes;
+use bay_system::System;
 use case_answer_lines::unreadable;
 use case_bonds::answer_bonds;
 use case_energy::answer_energy;
@@ -27,72 +27,18 @@ fn is_known(call: &[u8]) -> bool
         | same(call, b"mfe_configuration")
 }
 
-// The call is asked, if the whole system could be read.
-fn ask(
-    line: &[u8],
-    readable: bool,
-    z: Sizes,
-    strand_glues: &[u32],
-    scaffold: &[u32],
-    delta_g: &[f64],
-    entropy: &[f64],
-    logs: &[f64],
-    seeds: &[u32],
-    out: &mut [u8],
-) -> usize {
-    if !readable {
-        return unreadable(out);
-    }
+// The call is asked of a system that could be read.
+fn ask(line: &[u8], system: &System<'_>, out: &mut [u8]) -> usize {
     let call = call_name(line);
     if same(call, b"bonds") {
-        return answer_bonds(
-            z,
-            strand_glues,
-            scaffold,
-            delta_g,
-            entropy,
-            logs,
-            seeds,
-            out,
-        );
+        answer_bonds(system, out)
+    } else if same(call, b"allowed_tiles") {
+        answer_sets(line, system, out)
+    } else if same(call, b"state_g") {
+        answer_energy(line, system, out)
+    } else {
+        answer_run(line, system, out)
     }
-    if same(call, b"allowed_tiles") {
-        return answer_sets(
-            line,
-            z,
-            strand_glues,
-            scaffold,
-            delta_g,
-            entropy,
-            logs,
-            seeds,
-            out,
-        );
-    }
-    if same(call, b"state_g") {
-        return answer_energy(
-            line,
-            z,
-            strand_glues,
-            scaffold,
-            delta_g,
-            entropy,
-            logs,
-            seeds,
-            out,
-        );
-    }
-    answer_run(
-        line,
-        z,
-        strand_glues,
-        scaffold,
-        delta_g,
-        entropy,
-        logs,
-        seeds,
-        out,
-    )
 }
 
 // Reads the fields of a system; the matrices are room for its own.
@@ -115,19 +61,19 @@ fn system_into(
         &mut logs,
         &mut seeds,
     );
-    let z = read.sizes;
-    ask(
-        line,
-        read.readable,
-        z,
-        front(&strand_glues, read.strand_glues),
-        front(&scaffold, read.scaffold),
-        front(delta_g, read.delta_g),
-        front(entropy, read.entropy),
-        front(&logs, read.logs),
-        front(&seeds, read.seeds),
-        out,
-    )
+    if !read.readable {
+        return unreadable(out);
+    }
+    let system = System {
+        sizes: read.sizes,
+        strand_glues: front(&strand_glues, read.strand_glues),
+        scaffold: front(&scaffold, read.scaffold),
+        delta_g: front(delta_g, read.delta_g),
+        entropy: front(entropy, read.entropy),
+        logs: front(&logs, read.logs),
+        seeds: front(&seeds, read.seeds),
+    };
+    ask(line, &system, out)
 }
 
 fn answer_system(line: &[u8], out: &mut [u8]) -> usize {
