@@ -1,30 +1,28 @@
 -- A quote is no part of a number: what a field's content is read as is read off its bytes as they stand. Assumes nothing.
-use Rattle.std.proofs.Common.{None}
-use Prim.Native.Nat.{ℕ, suc, ◌-◌, ◌^◌}
+use Rattle.std.proofs.Common.{Some, None}
+use Rattle.std.specs.Option.{is_some, unwrap_or}
+use Prim.Native.Nat.{ℕ, zero, suc, ◌-◌, ◌^◌}
 use mathlib.Core.Bool.{Bool, true, false, cond, ◌&&◌, ◌||◌, true≢false}
 use mathlib.Core.List.{List, [], ◌∷◌, ◌++◌}
-use mathlib.Core.Path.{◌≡◌, refl, sym, ap, ◌∙◌}
+use mathlib.Core.Path.{◌≡◌, refl, sym, ◌∙◌}
 use native.Mathlib.Omega.{arith}
 use borrow.Author.Tests.{eqb-true, ne_eqb, lt-ltb}
 use lib.Dec.{eqb, leb, ltb}
 use lib.ListN.{length, get_or, take, drop}
-use Rattle.units.specs.Decimals.{plus}
 use Rattle.text_digits.specs.Digits.{digit, all_digits, worth}
 use Rattle.units.proofs.Tests.{and_left, and_right}
-use Rattle.text_decimals.specs.Decimals.{whole_length, places, whole_part, is_formed, are_few, is_unsigned, signed_of, decimal_of, is_minus_infinity, logarithm_of}
+use Rattle.text_decimals.specs.Decimals.{whole_length, places as decimal_places, whole_part, is_formed, are_few, is_unsigned, signed_of, decimal_of, is_minus_infinity, logarithm_of}
 use Rattle.sheet_number_lists.specs.NumberLists.{is_plain_number, value_of}
-use Rattle.sheet_number_lists.specs.Counts.{plain_number}
-use Rattle.sheet_number_lists.specs.declared.plain.PlainNumber.{PlainNumber}
+use Rattle.sheet_fields.specs.Answers.{places}
 use Rattle.sheet_fields.specs.Fields.{content, field_at}
 use Rattle.sheet_fields.specs.declared.Field.{Field}
 use Rattle.sheet_fields.proofs.Bounds.{raw_at}
 use Rattle.sheet_fields.proofs.Quotes.{has_quote, read_content}
 use Rattle.sheet_cells.proofs.Quotes.{no_quote_digit}
-use Rattle.sheet_numbers.specs.Counts.{is_count, from_zero, count_of, less_one}
-use Rattle.sheet_numbers.specs.Floats.{reading_of, read_as}
-use Rattle.sheet_numbers.specs.declared.count_field.Count.{Count}
+use Rattle.sheet_numbers.specs.Counts.{is_count, from_zero, count_of}
+use Rattle.sheet_numbers.specs.Floats.{read_as}
 use Rattle.sheet_numbers.specs.declared.float_column.Kind.{Kind}
-use Rattle.sheet_numbers.specs.declared.float_column.Reading.{Reading}
+use Rattle.sheet_numbers.specs.declared.float_column.Kind.TheVariants.{Decimals, DecimalsOrBlanks, Logarithms}
 
 -- what has no quote where it holds does not hold of a text with one
 not_with_quote : (holds : List ℕ → Bool) → ((t : List ℕ) → holds t ≡ true → has_quote t ≡ false) → (t : List ℕ) → has_quote t ≡ true → holds t ≡ false
@@ -42,23 +40,23 @@ digits_no_quote (b ∷ t) e =
 
 -- ---- decimals
 
-parts_no_quote : (t : List ℕ) → all_digits 10 (whole_part t ++ places t) ≡ true → has_quote t ≡ false
+parts_no_quote : (t : List ℕ) → all_digits 10 (whole_part t ++ decimal_places t) ≡ true → has_quote t ≡ false
 unfolding whole_length has_quote all_digits
 parts_no_quote [] e = refl
 parts_no_quote (b ∷ t) e = go (eqb b 46) refl e (parts_no_quote t)
   where
     go : (p : Bool) → eqb b 46 ≡ p → all_digits 10 (take (cond p 0 (suc (whole_length t))) (b ∷ t) ++ drop (suc (cond p 0 (suc (whole_length t)))) (b ∷ t)) ≡ true
-        → (all_digits 10 (whole_part t ++ places t) ≡ true → has_quote t ≡ false) → eqb b 34 || has_quote t ≡ false
+        → (all_digits 10 (whole_part t ++ decimal_places t) ≡ true → has_quote t ≡ false) → eqb b 34 || has_quote t ≡ false
     go true k d more = rw (eqb-true b 46 k) (digits_no_quote t d)
     go false k d more =
-        rw (no_quote_digit b (and_left (ltb (digit b) 10) (all_digits 10 (whole_part t ++ places t)) d))
-        (more (and_right (ltb (digit b) 10) (all_digits 10 (whole_part t ++ places t)) d))
+        rw (no_quote_digit b (and_left (ltb (digit b) 10) (all_digits 10 (whole_part t ++ decimal_places t)) d))
+        (more (and_right (ltb (digit b) 10) (all_digits 10 (whole_part t ++ decimal_places t)) d))
 
 unsigned_no_quote : (t : List ℕ) → is_unsigned t ≡ true → has_quote t ≡ false
 unfolding is_unsigned are_few
 unsigned_no_quote t e =
-    let all = whole_part t ++ places t in
-    let few = and_right (leb (length (places t)) 22) (are_few 0 all) (and_right (is_formed t) (leb (length (places t)) 22 && are_few 0 all) e) in
+    let all = whole_part t ++ decimal_places t in
+    let few = and_right (leb (length (decimal_places t)) 22) (are_few 0 all) (and_right (is_formed t) (leb (length (decimal_places t)) 22 && are_few 0 all) e) in
     parts_no_quote t (and_left (all_digits 10 all) (ltb (worth 10 0 all) (10 ^ 15)) few)
 
 signed_quote : (negative : Bool) (t : List ℕ) → has_quote t ≡ true → signed_of negative t ≡ None
@@ -106,18 +104,14 @@ unfolding has_quote
 quote_bytes [] e = absurd (true≢false (sym e))
 quote_bytes (b ∷ t) e = ne_eqb (suc (length t)) 0 (λ (q : suc (length t) ≡ 0). omega arith)
 
-quote_unread : (kind : Kind) (t : List ℕ) → has_quote t ≡ true → read_as kind t ≡ record { sound = false; value = plus 0 1 }
+quote_unread : (kind : Kind) (t : List ℕ) → has_quote t ≡ true → read_as kind t ≡ None
 unfolding read_as
-quote_unread kind t e = rw (quote_bytes t e, logarithm_quote t e, decimal_quote t e) (go kind.blanks kind.logarithms)
-  where
-    go : (blanks logarithms : Bool) → ◌≡◌ {A = Reading} (cond (blanks && false) (record { sound = true; value = plus 0 1 }) (reading_of (cond logarithms None None))) (record { sound = false; value = plus 0 1 })
-    go true true = refl
-    go true false = refl
-    go false true = refl
-    go false false = refl
+quote_unread Decimals t e = decimal_quote t e
+quote_unread DecimalsOrBlanks t e = rw (quote_bytes t e) (decimal_quote t e)
+quote_unread Logarithms t e = logarithm_quote t e
 
-pub float_read : (kind : Kind) (text : List ℕ) (at : ℕ) (f : Field) → f ≡ field_at text at → read_as kind (take (f.to - f.from) (drop f.from text)) ≡ read_as kind (content (drop at text))
-float_read kind text at f e = rw (e, raw_at text at) (sym (read_content (read_as kind) (record { sound = false; value = plus 0 1 }) (quote_unread kind) (drop at text)))
+pub float_read : (kind : Kind) (text : List ℕ) (at : ℕ) (f : Field) → f ≡ places (field_at text at) → read_as kind (take (f.to - f.from) (drop f.from text)) ≡ read_as kind (content (drop at text))
+float_read kind text at f e = rw (e, raw_at text at) (sym (read_content (read_as kind) None (quote_unread kind) (drop at text)))
 
 -- ---- counts
 
@@ -125,25 +119,30 @@ number_no_quote : (t : List ℕ) → is_plain_number t ≡ true → has_quote t 
 unfolding is_plain_number
 number_no_quote t e = digits_no_quote t (and_left (all_digits 10 t) _ (and_right (leb 1 (length t)) _ e))
 
-quote_no_number : (t : List ℕ) → has_quote t ≡ true → ◌≡◌ {A = PlainNumber} (plain_number t) (record { sound = false; value = 0 })
-unfolding value_of
-quote_no_number t e = rw (not_with_quote is_plain_number number_no_quote t e)
+quote_no_count : (t : List ℕ) → has_quote t ≡ true → count_of t ≡ None
+unfolding is_count
+quote_no_count t e = rw (not_with_quote is_plain_number number_no_quote t e)
 
-pub count_none : (n : PlainNumber) → n.value ≡ 0 → ◌≡◌ {A = Count} (record { sound = false; value = 0 }) (less_one n)
-count_none n e = rw e (go n.sound)
+pub count_read : (text : List ℕ) (at : ℕ) (f : Field) → f ≡ places (field_at text at) → count_of (take (f.to - f.from) (drop f.from text)) ≡ count_of (content (drop at text))
+count_read text at f e = rw (e, raw_at text at) (sym (read_content count_of None quote_no_count (drop at text)))
+
+-- ---- a count, and whether there is one
+
+pub count_there : (t : List ℕ) → is_some (count_of t) ≡ is_count t
+count_there t = go (is_count t)
   where
-    go : (s : Bool) → ◌≡◌ {A = Count} (record { sound = false; value = 0 }) (record { sound = s && false; value = 0 })
+    go : (p : Bool) → is_some (cond p (Some (from_zero t)) None) ≡ p
     go true = refl
     go false = refl
 
-pub count_some : (n : PlainNumber) → (n.value ≡ 0 → ⊥) → ◌≡◌ {A = Count} (record { sound = n.sound; value = n.value - 1 }) (less_one n)
-count_some n some = rw (lt-ltb 0 n.value (omega arith)) (go n.sound)
+pub count_value : (t : List ℕ) → unwrap_or (count_of t) 0 ≡ from_zero t
+unfolding is_count from_zero value_of
+count_value t = go (is_plain_number t)
   where
-    go : (s : Bool) → ◌≡◌ {A = Count} (record { sound = s; value = n.value - 1 }) (record { sound = s && true; value = n.value - 1 })
-    go true = refl
-    go false = refl
+    less : (n : ℕ) → unwrap_or (cond (ltb 0 n) (Some (n - 1)) None) 0 ≡ n - 1
+    less zero = refl
+    less (suc n) = rw (lt-ltb 0 (suc n) (omega arith)) refl
 
-pub count_read : (text : List ℕ) (at : ℕ) (f : Field) → f ≡ field_at text at → less_one (plain_number (take (f.to - f.from) (drop f.from text))) ≡ count_of (content (drop at text))
-unfolding is_count from_zero
-count_read text at f e =
-    rw (e, raw_at text at) (ap less_one (sym (read_content plain_number (record { sound = false; value = 0 }) quote_no_number (drop at text))))
+    go : (p : Bool) → unwrap_or (cond (p && ltb 0 (cond p (worth 10 0 t) 0)) (Some (cond p (worth 10 0 t) 0 - 1)) None) 0 ≡ cond p (worth 10 0 t) 0 - 1
+    go true = less (worth 10 0 t)
+    go false = refl

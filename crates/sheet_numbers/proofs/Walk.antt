@@ -1,32 +1,35 @@
 -- Laws of a walk down a column: the turns of the loop that reads a field of each record, whatever it is read as. Assumes nothing.
+use Rattle.std.proofs.Common.{Option, Some, None}
 use Prim.Native.Nat.{ℕ, suc, ◌+◌, ◌-◌, ◌≤◌, ◌<◌}
-use mathlib.Core.Bool.{Bool, true, false, cond}
+use mathlib.Core.Bool.{Bool, true, false}
 use mathlib.Core.List.{List, ◌∷◌, map}
 use mathlib.Core.Path.{◌≡◌, refl, ap, ◌∙◌}
 use native.Mathlib.Nat.{sub-zero}
 use native.Mathlib.Numerals.{add-one}
 use native.Mathlib.Omega.{arith}
-use borrow.Author.Tests.{ne_eqb, eqb-true}
-use lib.Dec.{eqb}
 use lib.ListN.{length, drop, set, length-set}
 use lib.Seq.{sets}
 use Rattle.sheet_fields.specs.Fields.{content}
 use Rattle.sheet_fields.specs.Runs.{contents, bytes_in}
 use Rattle.sheet_fields.proofs.Runs.{place_within, past_at}
 use Rattle.sheet_records.specs.Tables.{columns}
-use Rattle.sheet_numbers.specs.Faults.{first_fault}
+use Rattle.sheet_numbers.specs.Faults.{first_fault, fault_or}
 
 -- the fault found so far, or the first one of those that follow
-first_of_lem : (fault i : ℕ) (sound : Bool) (more : List Bool) (now : ℕ) → now ≡ cond (eqb fault 0) (cond sound 0 (i + 1)) fault
-    → cond (eqb now 0) (first_fault (i + 1 + 1) more) now ≡ cond (eqb fault 0) (first_fault (i + 1) (sound ∷ more)) fault
-unfolding first_fault
-first_of_lem fault i sound more now e = go (eqb fault 0) refl sound e
-  where
-    go : (q : Bool) → eqb fault 0 ≡ q → (s : Bool) → now ≡ cond q (cond s 0 (i + 1)) fault
-        → cond (eqb now 0) (first_fault (i + 1 + 1) more) now ≡ cond q (cond s (first_fault (i + 1 + 1) more) (i + 1)) fault
-    go true k true h = rw h
-    go true k false h = let some : eqb (i + 1) 0 ≡ false = ne_eqb (i + 1) 0 (omega arith) in rw (h, some)
-    go false k s h = rw (h, k)
+abbrev pub kept : Option ℕ → Option ℕ → Option ℕ
+kept (Some found) later = Some found
+kept None later = later
+
+none_follows : (fault : Option ℕ) → fault ≡ kept fault None
+none_follows (Some found) = refl
+none_follows None = refl
+
+first_of_lem : (fault : Option ℕ) (i : ℕ) (sound : Bool) (more : List Bool)
+    → kept (fault_or fault sound (i + 1)) (first_fault (i + 1 + 1) more) ≡ kept fault (first_fault (i + 1) (sound ∷ more))
+unfolding first_fault fault_or
+first_of_lem (Some found) i sound more = refl
+first_of_lem None i true more = refl
+first_of_lem None i false more = refl
 
 module _ {A : Type 0} (sound : List ℕ → Bool) (value : List ℕ → A) (records width column : ℕ) (text : List ℕ) where
   -- the column's fields of the records from a place on, of which so many are left
@@ -34,18 +37,18 @@ module _ {A : Type 0} (sound : List ℕ → Bool) (value : List ℕ → A) (reco
   fields left next = columns left width column 1 (drop next text)
 
   -- the first i fields of the column have been read: what is left of it ends both the table and the search for a fault
-  pub record InColumn (old out : List A) (fault next i : ℕ) : Type 0 where
+  pub record InColumn (old out : List A) (fault : Option ℕ) (next i : ℕ) : Type 0 where
     pub within : i ≤ records
     pub inside : next ≤ length text
     pub long : length out ≡ length old
-    pub found : cond (eqb fault 0) (first_fault (i + 1) (map sound (fields (records - i) next))) fault ≡ first_fault 1 (map sound (columns records width column 1 text))
+    pub found : kept fault (first_fault (i + 1) (map sound (fields (records - i) next))) ≡ first_fault 1 (map sound (columns records width column 1 text))
     pub put : sets out i (map value (fields (records - i) next)) ≡ sets old 0 (map value (columns records width column 1 text))
 
   module _ (old : List A) where
-    pub column_starts : InColumn old old 0 0 0
+    pub column_starts : InColumn old old None 0 0
     column_starts = record { within = omega arith; inside = omega arith; long = refl; found = rw (sub-zero records) refl; put = rw (sub-zero records) refl }
 
-    module _ (out : List A) (fault next i : ℕ) (s : InColumn old out fault next i) where
+    module _ (out : List A) (fault : Option ℕ) (next i : ℕ) (s : InColumn old out fault next i) where
       -- the column's field stands in the text
       pub field_inside : (first : ℕ) → first ≡ next + bytes_in column (drop next text) → first ≤ length text
       field_inside first e = place_within text next column first s.inside e
@@ -56,11 +59,7 @@ module _ {A : Type 0} (sound : List ℕ → Bool) (value : List ℕ → A) (reco
 
         pub column_fault : fault ≡ first_fault 1 (map sound (columns records width column 1 text))
         unfolding columns first_fault
-        column_fault = same (eqb fault 0) refl ∙ rw none at s.found
-          where
-            same : (q : Bool) → eqb fault 0 ≡ q → fault ≡ cond q 0 fault
-            same true e = eqb-true fault 0 e
-            same false e = refl
+        column_fault = none_follows fault ∙ rw none at s.found
 
         pub column_put : out ≡ sets old 0 (map value (columns records width column 1 text))
         unfolding columns
@@ -76,12 +75,12 @@ module _ {A : Type 0} (sound : List ℕ → Bool) (value : List ℕ → A) (reco
             let one_more : records - i ≡ suc (records - (i + 1)) = omega arith in
             rw (one_more, e, f, past_at column text next, past_at width text next)
 
-        pub column_goes_on : (v : A) → v ≡ value here → (b : Bool) → b ≡ sound here → (now : ℕ) → now ≡ cond (eqb fault 0) (cond b 0 (i + 1)) fault → InColumn old (set out i v) now after (i + 1)
+        pub column_goes_on : (v : A) → v ≡ value here → (b : Bool) → b ≡ sound here → (now : Option ℕ) → now ≡ fault_or fault b (i + 1) → InColumn old (set out i v) now after (i + 1)
         column_goes_on v p b q now g =
             record {
               within = omega arith;
               inside = place_within text next width after s.inside f;
               long = length-set out i v ∙ s.long;
-              found = first_of_lem fault i (sound here) (map sound (fields (records - (i + 1)) after)) now (rw q at g) ∙ rw split at s.found;
+              found = rw (g, q) (first_of_lem fault i (sound here) (map sound (fields (records - (i + 1)) after))) ∙ rw split at s.found;
               put = rw p (ap (λ (n : ℕ). sets (set out i (value here)) n (map value (fields (records - (i + 1)) after))) (add-one i) ∙ rw split at s.put);
             }

@@ -1,11 +1,10 @@
 // Numbers of a sheet: columns of decimals and of logarithms, a field read as a decimal, and one read as a row or a column of a grid.
 //
-// What reads a column puts a number for every record and answers the first line, from 1, whose field is none, 0 where there is none.
+// What reads a column puts a number for every record and answers the first line, from 1, whose field is none.
 #![tactic(auto)]
 
 mod count_field;
-mod faults;
 mod float_column;
 
-pub use count_field::{Count, count_at};
-pub use float_column::{Reading, decimal_at, put_decimals, put_logarithms};
+pub use count_field::count_at;
+pub use float_column::{Kind, decimal_at, put_floats};

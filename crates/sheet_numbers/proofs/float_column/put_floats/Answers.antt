@@ -1,7 +1,8 @@
 -- `float_column::put_floats` meets its contract. The loop's invariant is `InColumn`: what is left of the column ends the table and tells the fault.
 -- Assumes nothing.
-use mathlib.Core.Path.{ap}
-use Rattle.sheet_numbers.specs.declared.float_column.Reading.{Reading}
+use mathlib.Core.Path.{refl, ◌∙◌}
+use lib.Ieee.{of_bits, round}
+use Rattle.units.specs.Decimals.{decimal}
 use Rattle.sheet_numbers.specs.Floats.{is_read, value_as}
 use Rattle.sheet_numbers.proofs.Walk.{column_starts, field_inside, column_goes_on, column_fault, column_put}
 use Rattle.sheet_numbers.proofs.float_column.put_floats.Goals as goal
@@ -10,16 +11,17 @@ pub loop-i-init : goal.loop-i-init
 loop-i-init c = let a = c.args in
     column_starts (is_read a.kind) (value_as a.kind) a.records a.width a.column a.text.now a.out.now
 
-pub float_at-reading-requires : goal.float_at-reading-requires
-float_at-reading-requires c = let a = c.args in
+pub float_at-read-requires : goal.float_at-read-requires
+float_at-read-requires c = let a = c.args in
     let s = c.loop-i in
     field_inside (is_read a.kind) (value_as a.kind) a.records a.width a.column a.text.now a.out.now s.out s.fault s.next s.i s.invariant c.place_after-first.result c.place_after-first.ensures
 
 pub loop-i-preserved : goal.loop-i-preserved
+unfolding of_bits decimal round
 loop-i-preserved c = let a = c.args in
     let s = c.loop-i in
     column_goes_on (is_read a.kind) (value_as a.kind) a.records a.width a.column a.text.now a.out.now s.out s.fault s.next s.i s.invariant c.loop-i-test.true c.place_after-first.result c.place_after-next.result c.place_after-first.ensures c.place_after-next.ensures
-    c.float_at-reading.result.value (ap (λ (r : Reading). r.value) c.float_at-reading.ensures) c.float_at-reading.result.sound (ap (λ (r : Reading). r.sound) c.float_at-reading.ensures) c.first_fault-fault.result c.first_fault-fault.ensures
+    _ (c.unwrap_or.ensures ∙ rw c.float_at-read.ensures refl) _ (c.is_some.ensures ∙ rw c.float_at-read.ensures refl) c.fault_or-fault.result c.fault_or-fault.ensures
 
 pub shape_of-out : goal.shape_of-out
 shape_of-out c = c.loop-i.invariant.long
