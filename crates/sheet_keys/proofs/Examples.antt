@@ -1,4 +1,5 @@
 -- The definitions at small sheets, computed. Assumes nothing.
+use Rattle.std.specs.Prelude.{Some, None, Err}
 use Prim.Native.Nat.{ℕ}
 use mathlib.Core.List.{List, [], ◌∷◌, map}
 use mathlib.Core.Path.{◌≡◌, refl}
@@ -29,12 +30,12 @@ acg : List ℕ
 acg = 65 ∷ 67 ∷ 71 ∷ []
 
 -- keys: of one name and of two, with numbers and with a sequence
-keys : map key_fault ((a ∷ [] ∷ dg ∷ ds ∷ [] ∷ []) ∷ (a ∷ x ∷ dg ∷ ds ∷ [] ∷ []) ∷ (a ∷ x ∷ [] ∷ [] ∷ acg ∷ []) ∷ []) ≡ 0 ∷ 0 ∷ 0 ∷ []
+keys : map key_fault ((a ∷ [] ∷ dg ∷ ds ∷ [] ∷ []) ∷ (a ∷ x ∷ dg ∷ ds ∷ [] ∷ []) ∷ (a ∷ x ∷ [] ∷ [] ∷ acg ∷ []) ∷ []) ≡ None ∷ None ∷ None ∷ []
 unfolding a dg ds x acg key_fault fits is_blank read_as decimal round digit all_digits worth whole_length is_formed are_few is_unsigned value_of signed_of decimal_of
 keys = refl
 
 -- no first name; neither numbers nor a sequence; a number that is none; one number; a sequence and a number
-faults : map key_fault (([] ∷ a ∷ dg ∷ ds ∷ [] ∷ []) ∷ (a ∷ x ∷ [] ∷ [] ∷ [] ∷ []) ∷ (a ∷ x ∷ x ∷ ds ∷ [] ∷ []) ∷ (a ∷ x ∷ dg ∷ [] ∷ [] ∷ []) ∷ (a ∷ x ∷ dg ∷ [] ∷ acg ∷ []) ∷ (a ∷ x ∷ [] ∷ ds ∷ acg ∷ []) ∷ []) ≡ 1 ∷ 3 ∷ 3 ∷ 4 ∷ 3 ∷ 4 ∷ []
+faults : map key_fault (([] ∷ a ∷ dg ∷ ds ∷ [] ∷ []) ∷ (a ∷ x ∷ [] ∷ [] ∷ [] ∷ []) ∷ (a ∷ x ∷ x ∷ ds ∷ [] ∷ []) ∷ (a ∷ x ∷ dg ∷ [] ∷ [] ∷ []) ∷ (a ∷ x ∷ dg ∷ [] ∷ acg ∷ []) ∷ (a ∷ x ∷ [] ∷ ds ∷ acg ∷ []) ∷ []) ≡ Some 1 ∷ Some 3 ∷ Some 3 ∷ Some 4 ∷ Some 3 ∷ Some 4 ∷ []
 unfolding a dg ds x acg key_fault fits is_blank read_as decimal round digit all_digits worth whole_length is_formed are_few is_unsigned value_of signed_of decimal_of
 faults = refl
 
@@ -42,7 +43,7 @@ faults = refl
 sheet : List ℕ
 sheet = 97 ∷ 44 ∷ 44 ∷ 50 ∷ 44 ∷ 50 ∷ 44 ∷ 10 ∷ 97 ∷ 44 ∷ 120 ∷ 44 ∷ 44 ∷ 50 ∷ 44 ∷ 65 ∷ 10 ∷ []
 
-first_fault_lem : keys_fault 2 sheet ≡ record { line = 2; field = 4 }
+first_fault_lem : keys_fault 2 sheet ≡ Err (record { line = 2; field = 4 })
 unfolding sheet keys_from key_fault fits is_blank read_as decimal round digit all_digits worth whole_length is_formed are_few is_unsigned value_of signed_of decimal_of contents past content raw after field is_quoted quoted_field bare_field field_of ending_of plain_length is_plain
 first_fault_lem = refl
 

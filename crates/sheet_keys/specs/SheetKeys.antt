@@ -1,8 +1,9 @@
 -- Keys of a sheet with five fields a record, two names, two numbers and a sequence: which records are keys, and what is read off them. Assumes nothing.
-use Rattle.std.specs.Prelude.{ℕ, zero, suc, ◌+◌, Bool, false, cond, List, [], ◌∷◌, eqb, Float, length, get_or, drop}
+use Rattle.std.specs.Prelude.{ℕ, zero, suc, ◌+◌, Bool, cond, List, [], ◌∷◌, eqb, Float, length, get_or, drop, Option, Some, None, Result, Ok, Err}
 use Rattle.sheet_fields.specs.Runs.{contents, past}
-use Rattle.sheet_numbers.specs.Floats.{decimals, is_read, value_as}
-use Rattle.sheet_keys.specs.declared.key_faults.KeyFault.{KeyFault}
+use Rattle.sheet_numbers.specs.Floats.{is_read, value_as}
+use Rattle.sheet_numbers.specs.declared.float_column.Kind.TheVariants.{Decimals}
+use Rattle.sheet_fields.specs.declared.Place.{Place}
 
 -- ---- which records are keys
 
@@ -12,32 +13,36 @@ is_blank t = eqb (length t) 0
 
 -- a number's content: a decimal where numbers are to be given, blank where a sequence is given instead
 unfoldable pub fits : (numbers : Bool) → List ℕ → Bool
-fits numbers t = cond numbers (is_read (decimals false) t) (is_blank t)
+fits numbers t = cond numbers (is_read Decimals t) (is_blank t)
 
--- of the five contents of a record, the number of the first field that shows it to be no key, 0 where it is one: a key has a first name,
--- and it has numbers exactly where its sequence is blank
-unfoldable pub key_fault : List (List ℕ) → ℕ
+-- of the five contents of a record, the number of the first field that shows it to be no key: a key has a first name, and it has
+-- numbers exactly where its sequence is blank
+unfoldable pub key_fault : List (List ℕ) → Option ℕ
 key_fault fields =
     cond (is_blank (get_or fields 0 []))
-    1
+    (Some 1)
     (cond (fits (is_blank (get_or fields 4 [])) (get_or fields 2 []))
-    (cond (fits (is_blank (get_or fields 4 [])) (get_or fields 3 [])) 0 4)
-    3)
+    (cond (fits (is_blank (get_or fields 4 [])) (get_or fields 3 [])) None (Some 4))
+    (Some 3))
 
--- of so many records from a line on, the first that is no key, line 0 where all are
-unfoldable pub keys_from : (line records : ℕ) → List ℕ → KeyFault
-keys_from line zero t = record { line = 0; field = 0 }
-keys_from line (suc records) t =
-    cond (eqb (key_fault (contents 5 t)) 0) (keys_from (line + 1) records (past 5 t)) (record { line = line; field = key_fault (contents 5 t) })
+-- a record is refused by a field of its line, or those that follow are tested
+abbrev pub told : (line : ℕ) → Option ℕ → Result Unit Place → Result Unit Place
+told line (Some number) later = Err (record { line = line; field = number })
+told line None later = later
 
-abbrev pub keys_fault : (records : ℕ) → List ℕ → KeyFault
+-- of so many records from a line on, the first that is no key
+unfoldable pub keys_from : (line records : ℕ) → List ℕ → Result Unit Place
+keys_from line zero t = Ok tt
+keys_from line (suc records) t = told line (key_fault (contents 5 t)) (keys_from (line + 1) records (past 5 t))
+
+abbrev pub keys_fault : (records : ℕ) → List ℕ → Result Unit Place
 keys_fault records t = keys_from 1 records t
 
 -- ---- what is read off keys
 
 -- the value of a number's content, 0.0 where it is no decimal
 abbrev pub number : List ℕ → Float
-number t = value_as (decimals false) t
+number t = value_as Decimals t
 
 -- ---- what the functions on the way find
 

@@ -6,7 +6,7 @@ ghost use Rattle.sheet_names.specs.Appended.{flag_of};
 ghost use Rattle.sheet_names.specs.FrontFilled.{FrontFilled};
 ghost use Rattle.sheet_keys.specs.SheetKeys.{number, seconds};
 
-use sheet_names::fill_columns;
+use sheet_names::{Columns, fill_columns};
 use sheet_numbers::decimal_at;
 use sheet_records::place_after;
 
@@ -46,24 +46,21 @@ pub fn put_keys(
     ensures sequences { FrontFilled sequences.old sequence_offsets.old kinds.old 0 (columns records 5 4 1 sheet.now)
         result.sequences sequences.new sequence_offsets.new kinds.new }
 {
-    let names = fill_columns(sheet, records, 5, 0, 2, text, bytes, offsets, present);
+    let pairs = Columns {
+        width: 5,
+        from: 0,
+        count: 2,
+    };
+    let last = Columns {
+        width: 5,
+        from: 4,
+        count: 1,
+    };
+    let names = fill_columns(sheet, records, pairs, text, bytes, offsets, present);
     put_seconds(present, records, paired);
     put_numbers(sheet, records, numbers);
-    let taken = fill_columns(
-        sheet,
-        records,
-        5,
-        4,
-        5,
-        sequences,
-        0,
-        sequence_offsets,
-        kinds,
-    );
-    KeyTexts {
-        names: names,
-        sequences: taken,
-    }
+    let sequences = fill_columns(sheet, records, last, sequences, 0, sequence_offsets, kinds);
+    KeyTexts { names, sequences }
 }
 
 // Puts the second of every two flags.
@@ -72,10 +69,8 @@ fn put_seconds(present: &[u8], records: usize, paired: &mut [u8])
     requires records_in_bounds_2 { records ≤ length paired.old }
     ensures { paired.new ≡ sets paired.old 0 (seconds records present.now) }
 {
-    let mut i = 0;
-    while i < records {
+    for i in 0..records {
         paired[i] = present[i * 2 + 1];
-        i += 1;
     }
 }
 
@@ -85,15 +80,13 @@ fn put_numbers(sheet: &[u8], records: usize, numbers: &mut [f64])
     ensures { numbers.new ≡ sets numbers.old 0 (map number (columns records 5 2 2 sheet.now)) }
 {
     let mut next = 0;
-    let mut i = 0;
-    while i < records {
+    for i in 0..records {
         let first = place_after(sheet, next, 2);
         let second = place_after(sheet, next, 3);
         let dg = decimal_at(sheet, first);
         let ds = decimal_at(sheet, second);
-        numbers[i * 2] = dg.value;
-        numbers[i * 2 + 1] = ds.value;
+        numbers[i * 2] = dg.unwrap_or(0.0);
+        numbers[i * 2 + 1] = ds.unwrap_or(0.0);
         next = place_after(sheet, next, 5);
-        i += 1;
     }
 }

@@ -7,5 +7,5 @@
 mod key_faults;
 mod key_tables;
 
-pub use key_faults::{KeyFault, check_keys};
+pub use key_faults::check_keys;
 pub use key_tables::{KeyTexts, put_keys};

@@ -1,10 +1,6 @@
 -- `key_faults::check_keys` meets its contract. The loop's invariant is `InKeys`: the records passed are keys. Assumes nothing.
-use Prim.Native.Nat.{◌-◌}
 use Rattle.sheet_keys.proofs.Checking.{InKeys}
 use Rattle.sheet_keys.proofs.key_faults.check_keys.Given as goal
 
 abbrev pub invariant-loop-i : goal.invariant-loop-i
 invariant-loop-i l = InKeys l.records l.sheet l.next l.i
-
-abbrev pub decreases-loop-i : goal.decreases-loop-i
-decreases-loop-i l = l.records - l.i

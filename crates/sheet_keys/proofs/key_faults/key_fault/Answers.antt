@@ -4,17 +4,17 @@ use Rattle.sheet_fields.proofs.Runs.{place_within}
 use Rattle.sheet_keys.proofs.Checking.{fault_is}
 use Rattle.sheet_keys.proofs.key_faults.key_fault.Goals as goal
 
-pub blank_at-numbers-requires : goal.blank_at-numbers-requires
-blank_at-numbers-requires c = place_within c.args.sheet.now c.args.at 4 c.place_after-sequence.result c.requires c.place_after-sequence.ensures
+pub is_blank-numbers-requires : goal.is_blank-numbers-requires
+is_blank-numbers-requires c = place_within c.args.sheet.now c.args.at 4 c.place_after-sequence.result c.requires c.place_after-sequence.ensures
 
-pub fits_at-first_fits-requires : goal.fits_at-first_fits-requires
-fits_at-first_fits-requires c = place_within c.args.sheet.now c.args.at 2 c.place_after-first.result c.requires c.place_after-first.ensures
+pub fits-first_fits-requires : goal.fits-first_fits-requires
+fits-first_fits-requires c = place_within c.args.sheet.now c.args.at 2 c.place_after-first.result c.requires c.place_after-first.ensures
 
-pub fits_at-second_fits-requires : goal.fits_at-second_fits-requires
-fits_at-second_fits-requires c = place_within c.args.sheet.now c.args.at 3 c.place_after-second.result c.requires c.place_after-second.ensures
+pub fits-second_fits-requires : goal.fits-second_fits-requires
+fits-second_fits-requires c = place_within c.args.sheet.now c.args.at 3 c.place_after-second.result c.requires c.place_after-second.ensures
 
 pub returns : goal.returns
 returns c = let a = c.args in
     c.fault_of.ensures
     ∙ fault_is a.sheet.now a.at c.place_after-sequence.result c.place_after-first.result c.place_after-second.result c.place_after-sequence.ensures c.place_after-first.ensures c.place_after-second.ensures
-    c.blank_at-nameless.result c.blank_at-numbers.result c.fits_at-first_fits.result c.fits_at-second_fits.result c.blank_at-nameless.ensures c.blank_at-numbers.ensures c.fits_at-first_fits.ensures c.fits_at-second_fits.ensures
+    c.is_blank-nameless.result c.is_blank-numbers.result c.fits-first_fits.result c.fits-second_fits.result c.is_blank-nameless.ensures c.is_blank-numbers.ensures c.fits-first_fits.ensures c.fits-second_fits.ensures
