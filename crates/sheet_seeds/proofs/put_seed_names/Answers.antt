@@ -6,7 +6,6 @@ use Rattle.sheet_seeds.proofs.put_seed_names.Goals as goal
 pub fill_columns-requires : goal.fill_columns-requires
 fill_columns-requires c =
     record {
-      from_le_to = omega arith;
       bytes_in_bounds = omega arith;
       from_in_bounds = omega arith;
       from_in_bounds_2 = omega arith;
