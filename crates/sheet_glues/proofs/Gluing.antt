@@ -11,8 +11,8 @@ use Rattle.name_glues.specs.Names.{GlueNames, glue_names}
 use Rattle.sheet_records.specs.Tables.{columns}
 use Rattle.sheet_names.specs.Appended.{flag_of, ends, Appended}
 use Rattle.sheet_names.specs.FrontFilled.{no_entries, FrontFilled}
-use Rattle.sheet_names.specs.declared.Entries.{Entries}
-use Rattle.sheet_names.proofs.Appending.{append_as, then_append, appended_offsets}
+use Rattle.sheet_names.specs.declared.Laid.{Laid}
+use Rattle.sheet_names.proofs.Appending.{then_append, appended_offsets}
 use Rattle.sheet_names.proofs.Filling.{length_columns}
 use Rattle.sheet_names.proofs.Fronts.{front_text, front_offsets, front_present}
 use Rattle.sheet_glues.specs.SheetGlues.{sheet_glues, bytes_laid, laid_names, Registers}
@@ -25,18 +25,13 @@ length_glues rows cols strands strand_sheet scaffold_sheet =
     let bays = length_columns rows cols 0 cols scaffold_sheet in
     omega (arith, length-append (columns (strands - 1) 7 2 5 strand_sheet) (columns rows cols 0 cols scaffold_sheet))
 
--- each row of the scaffold is taken whole
-pub whole_rows : (rows cols : ℕ) → rows * (cols - 0) ≡ rows * cols
-whole_rows rows cols = ap (λ (n : ℕ). rows * n) (sub-zero cols)
-
 -- the scaffold's names are laid behind the strands'
-pub glues_laid : (rows cols strands : ℕ) (strand_sheet scaffold_sheet : List ℕ) {text offsets present : List ℕ} {first : Entries} {text' offsets' present' : List ℕ} {stop : Entries} {text'' offsets'' present'' : List ℕ}
+pub glues_laid : (rows cols strands : ℕ) (strand_sheet scaffold_sheet : List ℕ) {text offsets present : List ℕ} {first : Laid} {text' offsets' present' : List ℕ} {stop : Laid} {text'' offsets'' present'' : List ℕ}
     → Appended text offsets present (no_entries 0) (columns (strands - 1) 7 2 5 strand_sheet) first text' offsets' present'
-    → Appended text' offsets' present' first (columns rows cols 0 (cols - 0) scaffold_sheet) stop text'' offsets'' present''
+    → Appended text' offsets' present' first (columns rows cols 0 cols scaffold_sheet) stop text'' offsets'' present''
     → Appended text offsets present (no_entries 0) (sheet_glues rows cols strands strand_sheet scaffold_sheet) stop text'' offsets'' present''
 unfolding sheet_glues
-glues_laid rows cols strands strand_sheet scaffold_sheet a b =
-    then_append a (omega arith) (append_as (ap (λ (count : ℕ). columns rows cols 0 count scaffold_sheet) (sub-zero cols)) b)
+glues_laid rows cols strands strand_sheet scaffold_sheet a b = then_append a (omega arith) b
 
 -- ---- the fronts of the tables
 
@@ -44,7 +39,7 @@ first_offset : (offsets : List ℕ) → 0 < length offsets → take 1 (set offse
 first_offset [] h = absurd (omega arith)
 first_offset (x ∷ xs) h = refl
 
-module _ {text : List ℕ} (offsets : List ℕ) {present : List ℕ} {entries : List (List ℕ)} {stop : Entries} {text' offsets' present' : List ℕ}
+module _ {text : List ℕ} (offsets : List ℕ) {present : List ℕ} {entries : List (List ℕ)} {stop : Laid} {text' offsets' present' : List ℕ}
     (a : Appended text (set offsets 0 0) present (no_entries 0) entries stop text' offsets' present') where
   -- where the entries end is known from them
   all_laid : FrontFilled text offsets present 0 entries (bytes_laid (length text) entries) text' offsets' present'
@@ -68,7 +63,7 @@ module _ {text : List ℕ} (offsets : List ℕ) {present : List ℕ} {entries : 
       rw (t, o, p)
 
 -- the same of the sheets' names, by their count
-module _ (rows cols strands : ℕ) (strand_sheet scaffold_sheet : List ℕ) {text : List ℕ} (offsets : List ℕ) {present : List ℕ} {stop : Entries} {text' offsets' present' : List ℕ}
+module _ (rows cols strands : ℕ) (strand_sheet scaffold_sheet : List ℕ) {text : List ℕ} (offsets : List ℕ) {present : List ℕ} {stop : Laid} {text' offsets' present' : List ℕ}
     (a : Appended text (set offsets 0 0) present (no_entries 0) (sheet_glues rows cols strands strand_sheet scaffold_sheet) stop text' offsets' present') where
   pub glues_all : FrontFilled text offsets present 0 (sheet_glues rows cols strands strand_sheet scaffold_sheet) (bytes_laid (length text) (sheet_glues rows cols strands strand_sheet scaffold_sheet)) text' offsets' present'
   glues_all = all_laid offsets a

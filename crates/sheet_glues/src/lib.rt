@@ -8,7 +8,7 @@ ghost use Rattle.sheet_names.specs.FrontFilled.{no_entries, FrontFilled};
 ghost use Rattle.sheet_glues.specs.SheetGlues.{sheet_glues, bytes_laid, laid_names, Registers};
 
 use name_registering::register;
-use sheet_names::{Entries, put_columns};
+use sheet_names::{Columns, Laid, put_columns};
 use text_entries::Names;
 use text_fronts::front;
 use units::Refusal;
@@ -73,7 +73,7 @@ fn put_glues(
     text: &mut [u8],
     offsets: &mut [usize],
     present: &mut [u8],
-) -> Entries
+) -> Laid
     requires le_strands { 1 ≤ strands }
     requires cols_in_bounds { (strands - 1) * 5 + rows * cols < length offsets.old }
     requires cols_in_bounds_2 { (strands - 1) * 5 + rows * cols ≤ length present.old }
@@ -82,13 +82,22 @@ fn put_glues(
         result text.new offsets.new present.new }
 {
     offsets[0] = 0;
-    let none = Entries {
+    let none = Laid {
         entries: 0,
         bytes: 0,
     };
-    let records = strands - 1;
-    let first = put_columns(own, records, 7, 2, 7, text, offsets, present, none);
-    put_columns(grid, rows, cols, 0, cols, text, offsets, present, first)
+    let glues = Columns {
+        width: 7,
+        from: 2,
+        count: 5,
+    };
+    let bays = Columns {
+        width: cols,
+        from: 0,
+        count: cols,
+    };
+    let first = put_columns(own, strands - 1, glues, text, offsets, present, none);
+    put_columns(grid, rows, bays, text, offsets, present, first)
 }
 
 // Registers the names that stand at the fronts of the tables.
@@ -99,7 +108,7 @@ fn register_fronts(
     text: &[u8],
     offsets: &[usize],
     present: &[u8],
-    all: Entries,
+    all: Laid,
     strand_glues: &mut [u32],
     scaffold: &mut [u32],
     bases: &mut [usize],

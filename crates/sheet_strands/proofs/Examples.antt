@@ -1,4 +1,5 @@
 -- The definitions at a small sheet, computed. Assumes nothing.
+use Rattle.std.proofs.Common.{Some}
 use Prim.Native.Nat.{ℕ}
 use mathlib.Core.List.{List, [], ◌∷◌}
 use mathlib.Core.Path.{◌≡◌, refl}
@@ -27,7 +28,7 @@ unfolding logs_of sheet columns contents past is_plain plain_length ending_of fi
     read_as decimal round digit all_digits worth whole_length is_formed are_few is_unsigned value_of signed_of decimal_of is_minus_infinity logarithm_of
 logs = refl
 
-line : log_fault 2 sheet ≡ 2
+line : log_fault 2 sheet ≡ Some 2
 unfolding log_fault sheet columns contents past is_plain plain_length ending_of field_of bare_field is_quoted field raw content after
     first_fault read_as decimal round digit all_digits worth whole_length is_formed are_few is_unsigned value_of signed_of decimal_of is_minus_infinity logarithm_of
 line = refl

@@ -7,7 +7,8 @@ use lib.Ieee.{Float, binary64, of_bits, round}
 use lib.ListN.{length, take, drop, set}
 use lib.Seq.{sets, length-sets, take-length, drop-length}
 use Rattle.units.specs.Decimals.{decimal}
-use Rattle.sheet_numbers.specs.Floats.{logarithms, value_as}
+use Rattle.sheet_numbers.specs.Floats.{value_as}
+use Rattle.sheet_numbers.specs.declared.float_column.Kind.TheVariants.{Logarithms}
 use Rattle.sheet_strands.specs.Strands.{log_fields, logs_of}
 
 module _ {A : Type 0} where
@@ -30,11 +31,11 @@ module _ {A : Type 0} where
   long_behind l v xs m h e = ap length (put_behind l v xs m h e) ∙ length-sets l 0 (v ∷ xs)
 
 module _ (l : List Float) (records : ℕ) (sheet : List ℕ) (m : List Float) (h : records < length l)
-    (e : m ≡ sets (take (length (set l 0 (of_bits binary64 0)) - 1) (drop 1 (set l 0 (of_bits binary64 0)))) 0 (map (value_as logarithms) (log_fields records sheet))) where
+    (e : m ≡ sets (take (length (set l 0 (of_bits binary64 0)) - 1) (drop 1 (set l 0 (of_bits binary64 0)))) 0 (map (value_as Logarithms) (log_fields records sheet))) where
   -- the table afterwards
   abbrev all : List Float
   all = take 1 (set l 0 (of_bits binary64 0)) ++ (m ++ drop (length (set l 0 (of_bits binary64 0)) - 1) (drop 1 (set l 0 (of_bits binary64 0))))
 
   pub logs_put : all ≡ sets l 0 (logs_of records sheet)
   unfolding logs_of of_bits decimal round
-  logs_put = put_behind l (of_bits binary64 0) (map (value_as logarithms) (log_fields records sheet)) m (omega arith) e
+  logs_put = put_behind l (of_bits binary64 0) (map (value_as Logarithms) (log_fields records sheet)) m (omega arith) e

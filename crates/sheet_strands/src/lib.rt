@@ -6,8 +6,8 @@ ghost use Rattle.std.proofs.lemmas.List.Edits.{sets};
 ghost use Rattle.sheet_names.specs.FrontFilled.{FrontFilled};
 ghost use Rattle.sheet_strands.specs.Strands.{names_of, logs_of, log_fault};
 
-use sheet_names::{Entries, put_columns};
-use sheet_numbers::put_logarithms;
+use sheet_names::{Columns, Laid, put_columns};
+use sheet_numbers::{Kind, put_floats};
 use text_put::put_text;
 
 // Puts the names of the strands, `null` for strand 0, then the first field of each record, and answers how many bytes they take.
@@ -27,19 +27,21 @@ pub fn put_names(
     offsets[0] = 0;
     offsets[1] = bytes;
     present[0] = 1;
-    let start = Entries {
-        entries: 1,
-        bytes: bytes,
+    let start = Laid { entries: 1, bytes };
+    let names = Columns {
+        width: 7,
+        from: 0,
+        count: 1,
     };
-    put_columns(sheet, records, 7, 0, 1, text, offsets, present, start).bytes
+    put_columns(sheet, records, names, text, offsets, present, start).bytes
 }
 
-// Puts the logarithms, 0.0 for strand 0, then the second field of each record, and answers the first line whose field is none, 0 where there is none.
-pub fn put_logs(sheet: &[u8], records: usize, logs: &mut [f64]) -> usize
+// Puts the logarithms, 0.0 for strand 0, then the second field of each record, and answers the first line whose field is none.
+pub fn put_logs(sheet: &[u8], records: usize, logs: &mut [f64]) -> Option<usize>
     requires { records < length logs.old }
     ensures value { result ≡ log_fault records sheet.now }
     ensures logs_after { logs.new ≡ sets logs.old 0 (logs_of records sheet.now) }
 {
     logs[0] = 0.0;
-    put_logarithms(sheet, records, 7, 1, &mut logs[1..])
+    put_floats(sheet, records, 7, 1, Kind::Logarithms, &mut logs[1..])
 }

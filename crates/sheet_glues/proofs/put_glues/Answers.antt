@@ -4,14 +4,12 @@ use native.Mathlib.Omega.{arith}
 use lib.ListN.{length-set}
 use Rattle.sheet_names.proofs.Appending.{appended_offsets, appended_present, appended_within}
 use Rattle.sheet_names.proofs.Filling.{length_columns}
-use Rattle.sheet_glues.proofs.Gluing.{whole_rows, glues_laid}
+use Rattle.sheet_glues.proofs.Gluing.{glues_laid}
 use Rattle.sheet_glues.proofs.put_glues.Goals as goal
 
 pub put_columns-first-requires : goal.put_columns-first-requires
 put_columns-first-requires c = let l = length-set c.args.offsets.now 0 0 in
-    let bays = whole_rows c.args.rows c.args.cols in
     record {
-      from_le_to = omega arith;
       bytes_in_bounds = omega arith;
       from_in_bounds = omega arith;
       from_in_bounds_2 = omega arith;
@@ -19,13 +17,11 @@ put_columns-first-requires c = let l = length-set c.args.offsets.now 0 0 in
 
 pub put_columns-requires : goal.put_columns-requires
 put_columns-requires c = let l = length-set c.args.offsets.now 0 0 in
-    let bays = whole_rows c.args.rows c.args.cols in
     let a = c.put_columns-first.ensures in
     let k = simp length_columns at a.counted in
     let offsets = appended_offsets a in
     let present = appended_present a in
     record {
-      from_le_to = omega arith;
       bytes_in_bounds = appended_within a;
       from_in_bounds = omega (arith, c.requires.cols_in_bounds);
       from_in_bounds_2 = omega (arith, c.requires.cols_in_bounds_2);

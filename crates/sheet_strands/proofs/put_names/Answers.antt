@@ -17,7 +17,6 @@ bounds-offsets-1 c = simp length-set (omega arith)
 pub put_columns-requires : goal.put_columns-requires
 put_columns-requires c = let pre = c.requires in
     record {
-      from_le_to = omega arith;
       bytes_in_bounds = put_within c.put_text-bytes.ensures;
       from_in_bounds = simp length-set (omega arith);
       from_in_bounds_2 = simp length-set (omega arith);
