@@ -1,30 +1,22 @@
 // The files of a folder, each read whole into a lent slice.
 #![tactic(auto)]
 
-ghost use Rattle.std.specs.Prelude.{◌≤◌, ◌≡◌, length};
-ghost use Rattle.io.specs.Counts.{IsPrefixLen, clamp_len};
+ghost use Rattle.std.specs.Prelude.{◌≡◌, length};
 ghost use Rattle.text_put.specs.Puts.{Put};
 ghost use Rattle.sheet_files.specs.Paths.{path_of};
-ghost use Rattle.sheet_files.specs.Rooms.{LeavesRoom, NothingUnopened, answer_of, fails};
+ghost use Rattle.sheet_files.specs.Rooms.{LeavesRoom, part_of, AtMost};
 
 use std::fs::Files;
-use std::io::{Read, Result};
+use std::io::{Read, Result as ReadResult};
 use text_put::put_text;
 
-// What became of a file: whether it could be opened, whether it was read to its end, and how many bytes were read. Where these
-// are as many as the room has, the file may be longer.
+// Why a file was not read to its end: it could not be opened, it fills the room and may be longer, or a read failed after so
+// many bytes.
 #[derive(Clone, Copy)]
-pub struct FileRead {
-    pub opened: bool,
-    pub whole: bool,
-    pub bytes: usize,
-}
-
-// What one read gave: how many bytes, and whether it failed. No bytes of a read that did not fail are the end of the file.
-#[derive(Clone, Copy)]
-struct Part {
-    failed: bool,
-    bytes: usize,
+pub enum Unread {
+    Unopened,
+    Full,
+    Failed(usize),
 }
 
 // Puts the path of a file in a folder at the start of a lent slice, and answers where it ends.
@@ -36,82 +28,61 @@ pub fn put_path(folder: &[u8], name: &[u8], path: &mut [u8]) -> usize
     put_text(path, from, name)
 }
 
-// What a read gave as one number: how many bytes, or -1 where it failed.
-fn answer_of(got: Result<usize>) -> isize
-    ensures { result ≡ answer_of got }
+// How many bytes a read gave, none where it failed. No bytes are the end of the file.
+#[tactic(auto, unfolding(crate::specs::Rooms::part_of))]
+fn part_of(got: ReadResult<usize>, room: &[u8]) -> Option<usize>
+    ensures value { result ≡ part_of got (length room.now) }
+    ensures within { AtMost (length room.now) result }
 {
     match got {
-        Ok(bytes) => isize::try_from(bytes).unwrap_or(isize::MAX),
-        Err(_) => -1,
-    }
-}
-
-// What the number of a read says.
-fn part_of(got: isize, room: &[u8]) -> Part
-    ensures failed_value { result.failed ≡ fails got }
-    ensures bytes_value { result.bytes ≡ clamp_len got (length room.now) }
-    ensures bytes_in_bounds { result.bytes ≤ length room.now }
-{
-    Part {
-        failed: got < 0,
-        bytes: io::count(got, room),
+        Ok(bytes) => Some(bytes.min(room.len())),
+        Err(_) => None,
     }
 }
 
 // Reads once.
-fn read_part(file: &mut impl Read, room: &mut [u8]) -> Part
-    ensures { result.bytes ≤ length room.old }
+fn read_part(file: &mut impl Read, room: &mut [u8]) -> Option<usize>
+    ensures { AtMost (length room.old) result }
 {
-    let got = answer_of(file.read(room));
+    let got = file.read(room);
     part_of(got, room)
 }
 
-// Reads a file to its end, or until the room is full or a read fails.
-fn read_open(file: &mut impl Read, room: &mut [u8]) -> FileRead
-    ensures prefix_len { IsPrefixLen result.bytes room.new }
-    ensures leaves_room { LeavesRoom result.whole result.bytes room.new }
-    ensures nothing_unopened { NothingUnopened result.opened result.bytes }
+// Reads a file to its end, and answers how many bytes it has.
+fn read_open(file: &mut impl Read, room: &mut [u8]) -> Result<usize, Unread>
+    ensures { LeavesRoom room.new result }
 {
     let mut done = 0;
     while done < room.len() {
-        let more = read_part(file, &mut room[done..]);
-        if more.bytes == 0 {
-            return FileRead {
-                opened: true,
-                whole: !more.failed,
-                bytes: done,
-            };
+        let Some(bytes) = read_part(file, &mut room[done..]) else {
+            return Err(Unread::Failed(done));
+        };
+        if bytes == 0 {
+            return Ok(done);
         }
-        done += more.bytes;
+        done += bytes;
     }
-    FileRead {
-        opened: true,
-        whole: false,
-        bytes: done,
-    }
+    Err(Unread::Full)
 }
 
 // Reads the file of a path.
-fn read_path(rt: &impl Files, path: &[u8], room: &mut [u8]) -> FileRead
-    ensures prefix_len { IsPrefixLen result.bytes room.new }
-    ensures leaves_room { LeavesRoom result.whole result.bytes room.new }
-    ensures nothing_unopened { NothingUnopened result.opened result.bytes }
+fn read_path(rt: &impl Files, path: &[u8], room: &mut [u8]) -> Result<usize, Unread>
+    ensures { LeavesRoom room.new result }
 {
     match text_host::open_read(rt, path) {
         Ok(mut file) => read_open(&mut file, room),
-        Err(_) => FileRead {
-            opened: false,
-            whole: false,
-            bytes: 0,
-        },
+        Err(_) => Err(Unread::Unopened),
     }
 }
 
 // Reads a file of a folder. A path of 4,096 bytes or more names no file.
-pub fn read_file(rt: &impl Files, folder: &[u8], name: &[u8], room: &mut [u8]) -> FileRead
-    ensures prefix_len { IsPrefixLen result.bytes room.new }
-    ensures leaves_room { LeavesRoom result.whole result.bytes room.new }
-    ensures nothing_unopened { NothingUnopened result.opened result.bytes }
+pub fn read_file(
+    rt: &impl Files,
+    folder: &[u8],
+    name: &[u8],
+    room: &mut [u8],
+) -> Result<usize, Unread>
+    ensures { LeavesRoom room.new result }
 {
     let mut path = io::buffer();
     let end = put_path(folder, name, &mut path);
