@@ -23,9 +23,9 @@ pub fn write_sheet(
     if !lists.offsets_shaped(rows * cols) {
         return Err(Refusal::Shape);
     }
-    let need = sheet_length(rows, cols, &lists);
+    let need = sheet_length(rows, cols, offsets, tiles);
     if text.len() < need {
         return Err(Refusal::NoRoom(need));
     }
-    Ok(put_sheet(rows, cols, &lists, text))
+    Ok(put_sheet(rows, cols, offsets, tiles, text))
 }

@@ -3,7 +3,7 @@
 // Sums stop at the largest usize as they grow, so nothing wraps, and what is answered is the whole sum stopped there.
 ghost use Rattle.std.specs.Prelude.{◌≡◌, true, ◌++◌, ◌+◌, ◌*◌, ◌^◌, ◌<◌, ◌≤◌, length};
 ghost use Rattle.text_put.specs.Puts.{number_text};
-ghost use Rattle.bay_lists.specs.Lists.{offsets_shaped, constraints_of};
+ghost use Rattle.bay_lists.specs.Lists.{lists, offsets_shaped, constraints_of};
 ghost use Rattle.sheet_text.specs.Written.{gap, spaced, row_text, sheet_text};
 ghost use Rattle.sheet_text.specs.Lengths.{capped};
 
@@ -11,15 +11,15 @@ use crate::{gap, separator};
 use bay_lists::Constraints;
 
 // The bytes of a grid's sheet.
-pub fn sheet_length(rows: usize, columns: usize, lists: &Constraints<'_>) -> usize
-    requires shaped { offsets_shaped (rows * columns) (constraints_of lists.now) ≡ true }
-    requires bays_fit { rows * columns < 2 ^ 64 }
-    ensures { result ≡ capped (length (sheet_text (constraints_of lists.now) columns 0 rows)) }
+pub fn sheet_length(rows: usize, columns: usize, offsets: &[usize], tiles: &[u32]) -> usize
+    requires { offsets_shaped (rows * columns) (lists offsets.now tiles.now) ≡ true }
+    ensures { result ≡ capped (length (sheet_text (lists offsets.now tiles.now) columns 0 rows)) }
 {
+    let lists = Constraints::Lists { offsets, tiles };
     let bays = rows * columns;
     let mut total: usize = 0;
     for row in 0..rows {
-        total = total.saturating_add(record_length(bays, lists, row * columns, columns));
+        total = total.saturating_add(record_length(bays, &lists, row * columns, columns));
     }
     total
 }

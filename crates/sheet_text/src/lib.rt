@@ -5,7 +5,7 @@
 
 ghost use Rattle.std.specs.Prelude.{◌≡◌, true, ◌+◌, ◌*◌, ◌^◌, ◌<◌, ◌≤◌, length};
 ghost use Rattle.text_put.specs.Puts.{Put};
-ghost use Rattle.bay_lists.specs.Lists.{offsets_shaped, constraints_of};
+ghost use Rattle.bay_lists.specs.Lists.{lists, offsets_shaped, constraints_of};
 ghost use Rattle.sheet_text.specs.Written.{gap, spaced, separator, row_text, sheet_text};
 
 mod lengths;
@@ -15,15 +15,21 @@ pub use lengths::sheet_length;
 use text_put::{put_number, put_text};
 
 // The sheet of a grid.
-pub fn put_sheet(rows: usize, columns: usize, lists: &Constraints<'_>, text: &mut [u8]) -> usize
-    requires shaped { offsets_shaped (rows * columns) (constraints_of lists.now) ≡ true }
-    requires bays_fit { rows * columns < 2 ^ 64 }
-    ensures { Put text.old 0 (sheet_text (constraints_of lists.now) columns 0 rows) result text.new }
+pub fn put_sheet(
+    rows: usize,
+    columns: usize,
+    offsets: &[usize],
+    tiles: &[u32],
+    text: &mut [u8],
+) -> usize
+    requires { offsets_shaped (rows * columns) (lists offsets.now tiles.now) ≡ true }
+    ensures { Put text.old 0 (sheet_text (lists offsets.now tiles.now) columns 0 rows) result text.new }
 {
+    let lists = Constraints::Lists { offsets, tiles };
     let bays = rows * columns;
     let mut next = 0;
     for row in 0..rows {
-        next = put_record(bays, lists, row * columns, columns, text, next);
+        next = put_record(bays, &lists, row * columns, columns, text, next);
     }
     next
 }
