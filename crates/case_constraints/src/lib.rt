@@ -7,7 +7,7 @@ ghost use Rattle.case_constraints.specs.Within.{ConstraintsWithin, constraints_i
 
 use bay_lists::Constraints;
 use bay_system::Sizes;
-use case_field_reads::{at_most, numbers_field, small_numbers_field};
+use case_field_reads::{at_most, list_field};
 use case_text::{front, has_field};
 
 // How many items each of the two lists has.
@@ -49,13 +49,13 @@ pub fn read_constraints(line: &[u8], offsets: &mut [usize], tiles: &mut [u32]) -
             lists: None,
         };
     }
-    let ends = numbers_field(line, b"offsets", offsets);
-    let listed = small_numbers_field(line, b"tiles", tiles);
+    let ends = list_field(line, b"offsets", offsets);
+    let listed = list_field(line, b"tiles", tiles);
     ConstraintsRead {
-        readable: ends.readable && listed.readable,
+        readable: ends.is_some() && listed.is_some(),
         lists: Some(ListCounts {
-            offsets: ends.count,
-            tiles: listed.count,
+            offsets: ends.unwrap_or(0),
+            tiles: listed.unwrap_or(0),
         }),
     }
 }

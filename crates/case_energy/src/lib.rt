@@ -7,7 +7,7 @@ ghost use Rattle.case_energy.specs.Answer.{answer_text};
 
 use bay_system::System;
 use case_answer_lines::unreadable;
-use case_field_reads::small_numbers_field;
+use case_field_reads::list_field;
 use case_replies::put_energy;
 use case_text::front;
 use sdc2d_thermo::state_g;
@@ -17,11 +17,8 @@ pub fn answer_energy(line: &[u8], system: &System<'_>, out: &mut [u8]) -> usize
     ensures { Put out.old 0 (answer_text (system_of system.now) line.now) result out.new }
 {
     let mut room = [0u32; 1089];
-    let read = small_numbers_field(line, b"layout", &mut room);
-    let layout = front(&room, read.count);
-    if !read.readable {
+    let Some(n) = list_field(line, b"layout", &mut room) else {
         return unreadable(out);
-    }
-    let answer = state_g(system, layout);
-    put_energy(out, answer)
+    };
+    put_energy(out, state_g(system, front(&room, n)))
 }

@@ -1,19 +1,16 @@
 -- Laws of a field that the line has, and of one that it lacks. Assumes nothing.
-use Rattle.std.proofs.Common.{Some}
-use Prim.Native.Nat.{ℕ, ◌^◌}
-use mathlib.Core.Bool.{Bool, true, false, cond}
-use mathlib.Core.List.{List, [], ◌∷◌}
-use mathlib.Core.Path.{◌≡◌, refl, ◌∙◌}
+use Rattle.std.proofs.Common.{Option, Some, None, IfSome}
+use Prim.Native.Nat.{ℕ, ◌^◌, ◌≤◌}
+use mathlib.Core.Bool.{Bool, true, false, cond, ◌&&◌}
+use mathlib.Core.List.{List}
+use mathlib.Core.Path.{◌≡◌, refl}
 use lib.ListN.{length}
-use lib.Seq.{take-nil}
-use Rattle.text_digits.specs.Digits.{digit, all_digits, is_number, number_of, is_float}
-use Rattle.case_text.specs.Places.{longer, parts}
-use Rattle.case_text.specs.Plain.{is_plain}
+use lib.Dec.{leb}
+use borrow.Author.Tests.{leb-true}
+use Rattle.text_digits.specs.Digits.{number_of}
 use Rattle.case_text.specs.Fields.{words, any_field, first_field}
-use Rattle.case_lists.specs.Lists.{items, all, values, counted, front}
-use Rattle.case_lists.specs.Text.{signs, is_sign}
-use Rattle.case_lists.specs.declared.Count.{Count}
-use Rattle.case_fields.specs.Values.{field_or, field_count, field_front, number_or}
+use Rattle.case_lists.specs.Lists.{all, values, counted, front}
+use Rattle.case_fields.specs.Values.{field_count, field_front, number_or}
 
 -- ---- the number of a field
 
@@ -26,48 +23,27 @@ pub missing_number : (key line : List ℕ) → any_field key (words line) ≡ fa
 unfolding number_or
 missing_number key line missing otherwise = rw missing
 
--- ---- the items of a field, where the value of a missing one is a `%`
+-- ---- the items of a field
 
--- a way to cut a value and to read its parts, in which a `%` alone is one part that cannot be read
-pub record Refuses (ok : List ℕ → Bool) (cut : List ℕ → List (List ℕ)) : Type 0 where
-  pub one : cut (37 ∷ []) ≡ (37 ∷ []) ∷ []
-  pub bad : ok (37 ∷ []) ≡ false
-
-pub no_text : Refuses is_sign signs
-unfolding is_plain is_sign signs
-no_text = record { one = refl; bad = refl }
-
-pub no_number : (limit : ℕ) → Refuses (is_number limit) items
-unfolding digit all_digits is_number longer parts items
-no_number limit = record { one = refl; bad = refl }
-
-pub no_float : Refuses is_float items
-unfolding is_float longer parts items
-no_float = record { one = refl; bad = refl }
-
-module _ {ok : List ℕ → Bool} {cut : List ℕ → List (List ℕ)} (no : Refuses ok cut) {A : Type 0} (worth : List ℕ → A) (key line : List ℕ) (old : List A) where
-  no_count : counted ok (cut (37 ∷ [])) (length old) ≡ Count.Unreadable
-  unfolding counted all
-  no_count = rw (no.one, no.bad)
-
-  no_front : front (values ok worth (cut (37 ∷ []))) old ≡ old
-  unfolding front values
-  no_front = rw (no.one, no.bad, take-nil)
-
-  -- what the readers of a value answer and leave, of the value that stands for the field
-  pub as_field : {value : List ℕ} {count : Count} {new : List A} → value ≡ field_or key line (37 ∷ [])
+module _ {A : Type 0} (ok : List ℕ → Bool) (cut : List ℕ → List (List ℕ)) (worth : List ℕ → A) (key line : List ℕ) (old : List A) where
+  -- what the readers of a value answer and leave, of the field's value
+  pub as_field : {value : List ℕ} {count : Option ℕ} {new : List A} → any_field key (words line) ≡ true → value ≡ first_field key (words line)
       → (count ≡ counted ok (cut value) (length old)) × (new ≡ front (values ok worth (cut value)) old)
       → (count ≡ field_count ok cut key line (length old)) × (new ≡ field_front ok worth cut key line old)
   unfolding field_count field_front
-  as_field e r = (r.0 ∙ rw e (counts (any_field key (words line))), r.1 ∙ rw e (fills (any_field key (words line))))
-    where
-      found : List ℕ
-      found = first_field key (words line)
+  as_field there e r = (rw (there, ← e) r.0, rw (there, ← e) r.1)
 
-      counts : (t : Bool) → counted ok (cut (cond t found (37 ∷ []))) (length old) ≡ cond t (counted ok (cut found) (length old)) Count.Unreadable
-      counts true = refl
-      counts false = no_count
+  -- of a field that the line lacks
+  pub no_field : any_field key (words line) ≡ false → (None ≡ field_count ok cut key line (length old)) × (old ≡ field_front ok worth cut key line old)
+  unfolding field_count field_front
+  no_field missing = (rw missing, rw missing)
 
-      fills : (t : Bool) → front (values ok worth (cut (cond t found (37 ∷ [])))) old ≡ cond t (front (values ok worth (cut found)) old) old
-      fills true = refl
-      fills false = no_front
+-- as many items are counted as have room
+pub counted_within : (ok : List ℕ → Bool) (ws : List (List ℕ)) (room : ℕ) → IfSome (counted ok ws room) (λ n. n ≤ room)
+unfolding counted
+counted_within ok ws room = go (all ok ws) (leb (length ws) room) refl
+  where
+    go : (a b : Bool) → leb (length ws) room ≡ b → IfSome (cond (a && b) (Some (length ws)) None) (λ n. n ≤ room)
+    go true true e = leb-true (length ws) room e
+    go true false e = tt
+    go false b e = tt

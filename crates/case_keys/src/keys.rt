@@ -4,9 +4,9 @@ ghost use Rattle.std.specs.Prelude.{◌≤◌, length};
 use crate::matrices::put_matrices;
 use crate::reading::{ListsRead, NumbersRead, TextsRead, read_lists, read_numbers, read_texts};
 use case_answer_lines::{refused_with_tables, unreadable};
-use case_field_reads::{at_most, floats_field};
+use case_field_reads::{at_most, list_field};
 use case_lent::all_floats;
-use case_parts::{bytes_from, numbers_from};
+use case_parts::part_from;
 use case_text::front;
 use sdc2d::{KeyNames, KeyValues, energy_keys};
 use text_entries::Entries;
@@ -27,19 +27,19 @@ fn keys_into(
 {
     let names = KeyNames {
         names: Entries {
-            text: bytes_from(bytes, 0, texts.text),
-            offsets: numbers_from(numbers, 0, lists.offsets),
+            text: part_from(bytes, 0, texts.text),
+            offsets: part_from(numbers, 0, lists.offsets),
         },
-        paired: bytes_from(bytes, 32800, texts.paired),
-        bases: numbers_from(numbers, 192, asked.bases_length),
+        paired: part_from(bytes, 32800, texts.paired),
+        bases: part_from(numbers, 192, asked.bases_length),
         count: asked.count,
     };
     let values = KeyValues {
-        kinds: bytes_from(bytes, 32864, texts.kinds),
+        kinds: part_from(bytes, 32864, texts.kinds),
         numbers: energies,
         sequences: Entries {
-            text: bytes_from(bytes, 16400, texts.sequences),
-            offsets: numbers_from(numbers, 128, lists.sequence_offsets),
+            text: part_from(bytes, 16400, texts.sequences),
+            offsets: part_from(numbers, 128, lists.sequence_offsets),
         },
     };
     let answer = energy_keys(&names, &values, delta_g, entropy);
@@ -106,12 +106,12 @@ fn keys_read(
     let lists = read_lists(line, &mut numbers);
     let asked = read_numbers(line, lists.bases);
     let mut energies = [0.0; 128];
-    let floats = floats_field(line, b"numbers", &mut energies);
+    let floats = list_field(line, b"numbers", &mut energies);
     if !all_read(
         texts.readable,
         lists.readable,
         asked.readable,
-        floats.readable,
+        floats.is_some(),
     ) {
         return unreadable(out);
     }
@@ -121,7 +121,7 @@ fn keys_read(
         lists,
         &numbers,
         asked,
-        front(&energies, floats.count),
+        front(&energies, floats.unwrap_or(0)),
         delta_g,
         entropy,
         out,

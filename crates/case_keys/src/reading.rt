@@ -1,7 +1,7 @@
 // The fields of a case on energy keys: which table holds each, from which place on, and how much was read of it.
 use case_field_reads::{is_number, number_in};
 use case_fields::{number_field, number_or};
-use case_parts::{bytes_between, is_read, numbers_between, text_between, three_read};
+use case_parts::{is_read, list_between, text_between, three_read};
 use units::BASE_NUMBERS;
 
 // Whether the texts and bytes of a case could be read, and the length of each.
@@ -18,8 +18,8 @@ pub(crate) struct TextsRead {
 pub(crate) fn read_texts(line: &[u8], room: &mut [u8]) -> TextsRead {
     let text = text_between(line, b"text", room, 0, 16400);
     let sequences = text_between(line, b"sequences", room, 16400, 32800);
-    let paired = bytes_between(line, b"paired", room, 32800, 32864);
-    let kinds = bytes_between(line, b"kinds", room, 32864, 32928);
+    let paired = list_between(line, b"paired", room, 32800, 32864);
+    let kinds = list_between(line, b"kinds", room, 32864, 32928);
     TextsRead {
         readable: three_read(text, sequences, paired) && is_read(kinds),
         text,
@@ -40,9 +40,9 @@ pub(crate) struct ListsRead {
 
 // The offsets of names from 0 on, those of sequences from 128, the bases from 192, which zeros follow.
 pub(crate) fn read_lists(line: &[u8], room: &mut [usize]) -> ListsRead {
-    let offsets = numbers_between(line, b"offsets", room, 0, 128);
-    let sequence_offsets = numbers_between(line, b"sequence_offsets", room, 128, 192);
-    let bases = numbers_between(line, b"bases", room, 192, 492);
+    let offsets = list_between(line, b"offsets", room, 0, 128);
+    let sequence_offsets = list_between(line, b"sequence_offsets", room, 128, 192);
+    let bases = list_between(line, b"bases", room, 192, 492);
     ListsRead {
         readable: three_read(offsets, sequence_offsets, bases),
         offsets,

@@ -1,6 +1,7 @@
 -- Laws of a slice that is filled from its front with the values of items: the turns of a loop that reads them one by one. Assumes nothing.
 use Prim.Native.Nat.{ℕ, suc, ◌+◌, ◌-◌, ◌≤◌, ◌<◌}
-use mathlib.Core.Bool.{Bool, true, false}
+use mathlib.Core.Bool.{Bool, true, false, cond}
+use Rattle.std.proofs.Common.{Some, None}
 use mathlib.Core.List.{List, [], ◌∷◌, ◌++◌, append-nil}
 use mathlib.Core.Path.{◌≡◌, refl, sym, ap, ◌∙◌}
 use native.Mathlib.Numerals.{add-one}
@@ -11,7 +12,6 @@ use lib.Seq.{drop-cons, set_at, append_snoc, take_all, take_at}
 use Rattle.case_text.specs.Places.{place_of, parts}
 use Rattle.case_text.specs.Fields.{rest}
 use Rattle.case_lists.specs.Lists.{items, all, values, counted, front}
-use Rattle.case_lists.specs.declared.Count.{Count}
 use Rattle.case_text.proofs.Cuts.{part_at, none_after, more_after}
 use Rattle.text_digits.proofs.Worth.{and_false}
 
@@ -34,7 +34,7 @@ module _ {A : Type 0} (ok : List ℕ → Bool) (value : List ℕ → A) (ws : Li
   module _ (out : List A) (n : ℕ) where
     -- every item has been read
     module _ (s : Filling ok value ws old [] out n) where
-      pub filling_ends : Count.Of n ≡ counted ok ws (length old)
+      pub filling_ends : Some n ≡ counted ok ws (length old)
       unfolding counted all
       filling_ends =
           let e : length ws ≡ n = s.many ∙ omega arith in
@@ -67,7 +67,7 @@ module _ {A : Type 0} (ok : List ℕ → Bool) (value : List ℕ → A) (ws : Li
           }
 
       -- the next item cannot be read
-      pub filling_stops : ok w ≡ false → Count.Unreadable ≡ counted ok ws (length old)
+      pub filling_stops : ok w ≡ false → None ≡ counted ok ws (length old)
       unfolding counted all
       filling_stops k = rw (s.sound, k)
 
@@ -80,7 +80,7 @@ module _ {A : Type 0} (ok : List ℕ → Bool) (value : List ℕ → A) (ws : Li
           rw (e, take_all (length old) d short, s.count) s.filled
 
       -- the next item has no room
-      pub filling_is_full : length old ≤ n → Count.Unreadable ≡ counted ok ws (length old)
+      pub filling_is_full : length old ≤ n → None ≡ counted ok ws (length old)
       unfolding counted
       filling_is_full h =
           let over : length old < length ws = let m = s.many in omega arith in
@@ -118,7 +118,7 @@ module _ {A : Type 0} (ok : List ℕ → Bool) (value : List ℕ → A) (text : 
     none : Filling ok value (items text) old [] old 0
     none = rw (← no_items text e) (filling_starts ok value (items text) old)
 
-    pub no_item_counts : Count.Of 0 ≡ counted ok (items text) (length old)
+    pub no_item_counts : Some 0 ≡ counted ok (items text) (length old)
     no_item_counts = filling_ends ok value (items text) old old 0 none
 
     pub no_item_fills : old ≡ front (values ok value (items text)) old
@@ -136,7 +136,7 @@ module _ {A : Type 0} (ok : List ℕ → Bool) (value : List ℕ → A) (text : 
       here = rw p (rw (part_at 44 text at s.within) at s.fill)
 
       -- the item cannot be read
-      pub listing_stops : ok item ≡ false → (Count.Unreadable ≡ counted ok (items text) (length old)) × (out ≡ front (values ok value (items text)) old)
+      pub listing_stops : ok item ≡ false → (None ≡ counted ok (items text) (length old)) × (out ≡ front (values ok value (items text)) old)
       listing_stops k =
           let left = rest (parts 44 (drop e text)) in
           (filling_stops ok value (items text) old out n item left here k, filled_before ok value (items text) old out n item left here k)
@@ -154,14 +154,24 @@ module _ {A : Type 0} (ok : List ℕ → Bool) (value : List ℕ → A) (text : 
               fill = rw (ap (λ (m : ℕ). rest (parts 44 (drop m text))) p ∙ more_after 44 text at s.within found ∙ ap (λ (m : ℕ). parts 44 (drop (m + 1) text)) (sym p)) at more;
             }
 
-        pub listing_ends : e ≡ length text → (Count.Of (n + 1) ≡ counted ok (items text) (length old)) × (set out n v ≡ front (values ok value (items text)) old)
+        pub listing_ends : e ≡ length text → (Some (n + 1) ≡ counted ok (items text) (length old)) × (set out n v ≡ front (values ok value (items text)) old)
         listing_ends k =
             let last = rw (none_after 44 text e (omega arith)) at more in
             (filling_ends ok value (items text) old (set out n v) (n + 1) last, filled_all ok value (items text) old (set out n v) (n + 1) last)
 
     -- the item has no room
-    pub listing_is_full : length old ≤ n → (Count.Unreadable ≡ counted ok (items text) (length old)) × (out ≡ front (values ok value (items text)) old)
+    pub listing_is_full : length old ≤ n → (None ≡ counted ok (items text) (length old)) × (out ≡ front (values ok value (items text)) old)
     listing_is_full h =
         let e = place_of 44 text at in
         let left = rest (parts 44 (drop e text)) in
         (filling_is_full ok value (items text) old out n (item e refl) left (here e refl) h, filled_full ok value (items text) old out n (item e refl) left (here e refl) h)
+
+-- ---- what an item is read as
+
+pub item_read : {A : Type 0} (t : Bool) {w x : A} → cond t (Some w) None ≡ Some x → (t ≡ true) × (w ≡ x)
+item_read true e = (refl, cc)
+item_read false e = cc
+
+pub item_unread : {A : Type 0} (t : Bool) (w : A) → cond t (Some w) None ≡ None → t ≡ false
+item_unread true w e = cc
+item_unread false w e = refl

@@ -1,4 +1,4 @@
 pub mod Examples
 pub mod Filling
+pub mod Reading
 pub mod Signs
-pub mod Walking

@@ -3,12 +3,11 @@ ghost use Rattle.std.specs.Prelude.{◌≡◌, ◌<◌, length};
 ghost use Rattle.case_lists.specs.Lists.{counted, values, front};
 ghost use Rattle.case_lists.specs.Text.{signs, is_sign, byte_of, plain_of, hidden_of, sign_of, SignEnds};
 
-use crate::Count;
 use case_text::{is_plain, whole};
 
 // Writes the bytes of a text to the front of `out`, and answers how many they are. Where the text
 // is unreadable, or longer than `out`, the bytes before the fault are written. Nothing else changes.
-pub fn text_into(value: &[u8], out: &mut [u8]) -> Count
+pub fn text_into(value: &[u8], out: &mut [u8]) -> Option<usize>
     ensures value { result ≡ counted is_sign (signs value.now) (length out.old) }
     ensures out_after { out.new ≡ front (values is_sign byte_of (signs value.now)) out.old }
 {
@@ -17,20 +16,13 @@ pub fn text_into(value: &[u8], out: &mut [u8]) -> Count
     while at < value.len() {
         let end = sign_end(value, at);
         if out.len() <= n {
-            return Count::Unreadable;
+            return None;
         }
-        match sign(&value[at..end]) {
-            Some(b) => {
-                out[n] = b as u8;
-            }
-            None => {
-                return Count::Unreadable;
-            }
-        }
+        out[n] = sign(&value[at..end])? as u8;
         n += 1;
         at = end;
     }
-    Count::Of(n)
+    Some(n)
 }
 
 // Where the sign that starts at `at` ends: three bytes on after a `%`, else one.
@@ -61,29 +53,19 @@ fn sign(part: &[u8]) -> Option<u64>
 }
 
 // A byte by itself stands for itself, where it may.
+#[tactic(auto, unfolding(crate::specs::Text::plain_of))]
 fn plain(b: u8) -> Option<u64>
     ensures { result ≡ plain_of b }
 {
     let n = b as u64;
-    if is_plain(n) {
-        Some(n)
-    } else {
-        None
-    }
+    if is_plain(n) { Some(n) } else { None }
 }
 
 // A byte by its digits is one that cannot stand for itself, so that each text is written in one way.
+#[tactic(auto, unfolding(crate::specs::Text::hidden_of))]
 fn hidden(byte: Option<u64>) -> Option<u64>
     ensures { result ≡ hidden_of byte }
 {
-    match byte {
-        Some(n) => {
-            if is_plain(n) {
-                None
-            } else {
-                Some(n)
-            }
-        }
-        None => None,
-    }
+    let n = byte?;
+    if is_plain(n) { None } else { Some(n) }
 }

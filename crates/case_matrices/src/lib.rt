@@ -3,7 +3,7 @@
 
 ghost use Rattle.std.specs.Prelude.{◌≤◌, length};
 
-use case_field_reads::{ListRead, at_most, floats_field, is_number, number_in, numbers_field};
+use case_field_reads::{at_most, is_number, list_field, number_in};
 use case_fields::number_or;
 use case_text::front;
 
@@ -17,14 +17,8 @@ pub struct Matrices {
 
 // Puts 0.0 into the first places.
 fn clear(table: &mut [f64], length: usize) {
-    let mut i = 0;
-    while i < table.len() {
-        if length <= i {
-            return;
-        }
-        table[i] = 0.0;
-        i += 1;
-    }
+    let n = length.min(table.len());
+    table[..n].fill(0.0);
 }
 
 // The place of a cell. A number past the longest matrix, 66,049 places, is taken for that, which is past the end too.
@@ -37,10 +31,7 @@ fn place(row: usize, col: usize, glues: usize) -> usize {
 
 // Writes one place, unless it is past the end.
 fn put(table: &mut [f64], length: usize, at: usize, x: f64) {
-    if length <= at {
-        return;
-    }
-    if at < table.len() {
+    if at < length && at < table.len() {
         table[at] = x;
     }
 }
@@ -54,22 +45,19 @@ fn put_cells(
     delta_g: &mut [f64],
     entropy: &mut [f64],
 ) {
-    let mut k = 0;
-    while k + 1 < cells.len() {
-        if energies.len() <= k + 1 {
-            return;
-        }
-        let at = place(cells[k], cells[k + 1], glues);
-        put(delta_g, lengths.delta_g, at, energies[k]);
-        put(entropy, lengths.entropy, at, energies[k + 1]);
-        k += 2;
+    for (cell, energy) in cells.chunks_exact(2).zip(energies.chunks_exact(2)) {
+        let at = place(cell[0], cell[1], glues);
+        put(delta_g, lengths.delta_g, at, energy[0]);
+        put(entropy, lengths.entropy, at, energy[1]);
     }
 }
 
 // Whether there is a ΔG and a ΔS for each cell.
-fn paired(cells: ListRead, energies: ListRead) -> bool {
-    let n = cells.count;
-    cells.readable && energies.readable && n % 2 == 0 && n == energies.count
+fn paired(cells: Option<usize>, energies: Option<usize>) -> bool {
+    match (cells, energies) {
+        (Some(n), Some(m)) => n % 2 == 0 && n == m,
+        _ => false,
+    }
 }
 
 // Whether a length is a number and no longer than the longest matrix.
@@ -106,16 +94,16 @@ pub fn matrices_into(
     ensures { (result.delta_g ≤ length delta_g.old) × (result.entropy ≤ length entropy.old) }
 {
     let mut cells = [0usize; 128];
-    let cells_read = numbers_field(line, b"cells", &mut cells);
+    let cells_read = list_field(line, b"cells", &mut cells);
     let mut energies = [0.0; 128];
-    let energies_read = floats_field(line, b"energies", &mut energies);
+    let energies_read = list_field(line, b"energies", &mut energies);
     let fits = paired(cells_read, energies_read);
     let matrices = lengths(line, glues, fits, delta_g.len(), entropy.len());
     clear(delta_g, matrices.delta_g);
     clear(entropy, matrices.entropy);
     put_cells(
-        front(&cells, cells_read.count),
-        front(&energies, energies_read.count),
+        front(&cells, cells_read.unwrap_or(0)),
+        front(&energies, energies_read.unwrap_or(0)),
         glues,
         matrices,
         delta_g,

@@ -12,7 +12,6 @@ ghost use Rattle.case_names.specs.Calls.{knows};
 use case_answer_lines::{put_text, unreadable};
 use case_answer_lists::put_coded;
 use case_fields::text_field;
-use case_lists::Count;
 use case_replies::Reply;
 use case_text::{call_name, front, same};
 use sdc_common::{is_from, self_and_inverse};
@@ -27,7 +26,7 @@ fn put_base(out: &mut [u8], base: &[u8], is_from: bool) -> usize {
 
 fn answer_base(line: &[u8], out: &mut [u8]) -> usize {
     let mut name = [0u8; 1024];
-    let Count::Of(n) = text_field(line, b"name", &mut name) else {
+    let Some(n) = text_field(line, b"name", &mut name) else {
         return unreadable(out);
     };
     let given = front(&name, n);

@@ -5,8 +5,7 @@ use case_field_reads::{at_most, is_number, number_in};
 use case_fields::number_field;
 use case_lent::{all_numbers, all_small_numbers, put_rest};
 use case_parts::{
-    bays_of, bytes_between, bytes_from, length_of, numbers_between, read_grid, text_between,
-    three_read,
+    bays_of, length_of, list_between, part_from, read_grid, text_between, three_read,
 };
 use case_text::front;
 use sdc2d::register;
@@ -123,13 +122,13 @@ fn register_lent(asked: Asked, names: &Names<'_>, out: &mut [u8]) -> usize {
 pub(crate) fn answer_register(line: &[u8], out: &mut [u8]) -> usize {
     let mut bytes = [0u8; 17800];
     let text = text_between(line, b"text", &mut bytes, 0, 16400);
-    let present = bytes_between(line, b"present", &mut bytes, 16400, 17800);
+    let present = list_between(line, b"present", &mut bytes, 16400, 17800);
     let mut numbers = [0usize; 1400];
-    let offsets = numbers_between(line, b"offsets", &mut numbers, 0, 1400);
+    let offsets = list_between(line, b"offsets", &mut numbers, 0, 1400);
     let names = Names {
-        text: bytes_from(&bytes, 0, text),
+        text: part_from(&bytes, 0, text),
         offsets: front(&numbers, offsets),
-        present: bytes_from(&bytes, 16400, present),
+        present: part_from(&bytes, 16400, present),
     };
     match read_numbers(line) {
         Some(asked) if three_read(text, present, offsets) => register_lent(asked, &names, out),

@@ -8,7 +8,7 @@ use borrow.Author.Tests.{leb-true, leb-false}
 use lib.Dec.{leb}
 use lib.ListN.{length, take, drop, length-drop, drop_of_length-le}
 use lib.Seq.{drop-drop, take-length}
-use Rattle.case_lists.specs.declared.Count.{Count}
+use Rattle.std.proofs.Common.{Option}
 use Rattle.case_fields.specs.Values.{field_count, field_front}
 use Rattle.case_parts.specs.Parts.{count_of, part_end, part_start, between, count_between, front_between}
 
@@ -19,7 +19,7 @@ module _ {A : Type 0} (ok : List ℕ → Bool) (value : List ℕ → A) (cut : L
       drop-drop (end - start) start old ∙ ap (λ (n : ℕ). drop n old) (whole ∙ e)
 
   -- what the reader of the part answers and leaves, put back into the table
-  pub as_between : {end start : ℕ} {count : Count} {r : ℕ} {new : List A} → end ≡ min to (length old) → start ≡ min from end
+  pub as_between : {end start : ℕ} {count : Option ℕ} {r : ℕ} {new : List A} → end ≡ min to (length old) → start ≡ min from end
       → let part = take (end - start) (drop start old) in
       (count ≡ field_count ok cut key line (length part)) × (new ≡ field_front ok value cut key line part) → r ≡ count_of count
       → (r ≡ count_between ok cut key line from to old) × (take start old ++ (new ++ drop (end - start) (drop start old)) ≡ front_between ok value cut key line from to old)

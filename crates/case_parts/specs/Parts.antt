@@ -1,18 +1,15 @@
 -- What the contracts cite of fields that are read into parts of a table, and of how much was read. Assumes nothing.
-use Rattle.std.specs.Prelude.{ℕ, ◌-◌, min, Bool, cond, List, ◌++◌, ltb, length, take, drop, Option}
-use Rattle.case_lists.specs.declared.Count.{Count}
-use Rattle.case_lists.specs.declared.Count.TheVariants.{Of, Unreadable}
+use Rattle.std.specs.Option.{unwrap_or}
+use Rattle.std.specs.Prelude.{ℕ, ◌-◌, min, Bool, List, ◌++◌, ltb, length, take, drop, Option}
 use Rattle.case_fields.specs.Values.{field_count, field_front}
-use Rattle.case_field_reads.specs.Reads.{is_read, number_in}
 
 -- the count of a field that could not be read: more than any table here has places
 abbrev pub unread : ℕ
 unread = 1048576
 
 -- how many items were read of a field
-abbrev pub count_of : Count → ℕ
-count_of (Of n) = n
-count_of Unreadable = unread
+abbrev pub count_of : Option ℕ → ℕ
+count_of count = unwrap_or count unread
 
 -- whether a field was read, by its count
 abbrev pub was_read : ℕ → Bool
@@ -20,7 +17,7 @@ was_read count = ltb count unread
 
 -- how long a case says that a lent table is, the right length where it does not say, and `unread` where that cannot be read
 abbrev pub length_for : Option ℕ → ℕ
-length_for length = cond (is_read length) (number_in length) unread
+length_for length = unwrap_or length unread
 
 -- the places that a part of a table goes from and to: as asked, as far as the table goes
 abbrev pub part_end : {A : Type 0} → (to : ℕ) → List A → ℕ

@@ -3,16 +3,14 @@
 
 mod grid;
 
-ghost use Rattle.std.specs.Prelude.{◌&&◌, ◌≡◌, ◌^◌, take, drop};
-ghost use Rattle.text_digits.specs.Digits.{worth, is_number};
+ghost use Rattle.std.specs.Prelude.{◌&&◌, ◌≡◌, take, drop};
 ghost use Rattle.case_lists.specs.Lists.{items};
 ghost use Rattle.case_lists.specs.Text.{signs, is_sign, byte_of};
 ghost use Rattle.case_fields.specs.Values.{number_or};
 ghost use Rattle.case_parts.specs.Parts.{count_of, was_read, length_for, count_between, front_between};
 
-use case_field_reads::{is_number, number_in};
-use case_fields::{bytes_field, number_or, numbers_field, text_field};
-use case_lists::Count;
+use case_fields::{list_field, number_or, text_field};
+use case_lists::Item;
 use case_text::front;
 pub use grid::{GridRead, bays_of, read_grid};
 use text_fronts::least;
@@ -21,13 +19,10 @@ use text_fronts::least;
 pub const UNREAD: usize = 1048576;
 
 // How many items were read of a field.
-pub fn counted(count: Count) -> usize
+pub fn counted(count: Option<usize>) -> usize
     ensures { result ≡ count_of count }
 {
-    match count {
-        Count::Of(n) => n,
-        Count::Unreadable => UNREAD,
-    }
+    count.unwrap_or(UNREAD)
 }
 
 // Whether a field was read, by its count.
@@ -54,49 +49,35 @@ pub fn text_between(line: &[u8], key: &[u8], room: &mut [u8], from: usize, to: u
     counted(text_field(line, key, &mut room[start..end]))
 }
 
-// Reads a list of bytes likewise.
-pub fn bytes_between(line: &[u8], key: &[u8], room: &mut [u8], from: usize, to: usize) -> usize
-    ensures count { result ≡ count_between (is_number (2 ^ 8)) items key.now line.now from to room.old }
-    ensures table { room.new ≡ front_between (is_number (2 ^ 8)) (worth 10 0) items key.now line.now from to room.old }
+// Reads a list likewise.
+pub fn list_between<T: Item>(
+    line: &[u8],
+    key: &[u8],
+    room: &mut [T],
+    from: usize,
+    to: usize,
+) -> usize
+    ensures count { result ≡ count_between T.is_item items key.now line.now from to room.old }
+    ensures table { room.new ≡ front_between T.is_item T.value_in items key.now line.now from to room.old }
 {
     let end = least(to, room.len());
     let start = least(from, end);
-    counted(bytes_field(line, key, &mut room[start..end]))
+    counted(list_field(line, key, &mut room[start..end]))
 }
 
-// Reads a list of numbers likewise.
-pub fn numbers_between(line: &[u8], key: &[u8], room: &mut [usize], from: usize, to: usize) -> usize
-    ensures count { result ≡ count_between (is_number (2 ^ 64)) items key.now line.now from to room.old }
-    ensures table { room.new ≡ front_between (is_number (2 ^ 64)) (worth 10 0) items key.now line.now from to room.old }
-{
-    let end = least(to, room.len());
-    let start = least(from, end);
-    counted(numbers_field(line, key, &mut room[start..end]))
-}
-
-// So many bytes of a table from a place on, as far as it goes.
-pub fn bytes_from<'a>(table: &'a [u8], from: usize, count: usize) -> &'a [u8]
+// So many places of a table from one on, as far as it goes.
+pub fn part_from<T>(table: &[T], from: usize, count: usize) -> &[T]
     ensures { result.now ≡ take count (drop from table.now) }
 {
-    let at = least(from, table.len());
-    front(&table[at..], count)
-}
-
-// So many numbers of a table from a place on, as far as it goes.
-pub fn numbers_from<'a>(table: &'a [usize], from: usize, count: usize) -> &'a [usize]
-    ensures { result.now ≡ take count (drop from table.now) }
-{
-    let at = least(from, table.len());
-    front(&table[at..], count)
+    front(&table[least(from, table.len())..], count)
 }
 
 // How long a case says that a lent table is, or the right length where it does not say.
 pub fn length_of(line: &[u8], key: &[u8], right: usize) -> usize
     ensures { result ≡ length_for (number_or key.now line.now right) }
 {
-    let length = number_or(line, key, right);
-    if is_number(length) {
-        return number_in(length);
+    match number_or(line, key, right) {
+        Some(length) => length as usize,
+        None => UNREAD,
     }
-    UNREAD
 }

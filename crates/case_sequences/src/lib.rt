@@ -8,7 +8,6 @@ ghost use Rattle.case_sequences.specs.Calls.{is_on_one, knows};
 
 use case_answer_lines::{put_floats, put_signed, put_text, refused, unreadable};
 use case_fields::{float_field, text_field};
-use case_lists::Count;
 use case_replies::{Reply, put_energy};
 use case_text::{call_name, front, same};
 use units::{BaseEnergy, Refusal};
@@ -63,7 +62,7 @@ fn answer_one(line: &[u8], call: &[u8], out: &mut [u8]) -> usize
     ensures { result ≤ length out.old }
 {
     let mut dna = [0u8; 1024];
-    let Count::Of(n) = text_field(line, b"dna", &mut dna) else {
+    let Some(n) = text_field(line, b"dna", &mut dna) else {
         return unreadable(out);
     };
     answer_sequence(line, call, front(&dna, n), out)
@@ -74,11 +73,11 @@ fn answer_pair(line: &[u8], out: &mut [u8]) -> usize
     ensures { result ≤ length out.old }
 {
     let mut a = [0u8; 1024];
-    let Count::Of(m) = text_field(line, b"a", &mut a) else {
+    let Some(m) = text_field(line, b"a", &mut a) else {
         return unreadable(out);
     };
     let mut b = [0u8; 1024];
-    let Count::Of(n) = text_field(line, b"b", &mut b) else {
+    let Some(n) = text_field(line, b"b", &mut b) else {
         return unreadable(out);
     };
     let answer = sequence_pair_str_dg_ds(front(&a, m), front(&b, n));

@@ -2,7 +2,6 @@
 use crate::lines::put_reading;
 use case_answer_lines::unreadable;
 use case_fields::text_field;
-use case_lists::Count;
 use case_parts::{bays_of, length_of, read_grid};
 use case_text::front;
 use sheet::read_sheet;
@@ -48,7 +47,7 @@ fn text_read(line: &[u8], text: &[u8], out: &mut [u8]) -> usize {
 pub(crate) fn answer_reading(line: &[u8], out: &mut [u8]) -> usize {
     let mut text = [0u8; 196608];
     match text_field(line, b"text", &mut text) {
-        Count::Of(n) => text_read(line, front(&text, n), out),
-        Count::Unreadable => unreadable(out),
+        Some(n) => text_read(line, front(&text, n), out),
+        None => unreadable(out),
     }
 }

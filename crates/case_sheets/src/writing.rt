@@ -1,7 +1,7 @@
 // The call `write_sheet`: lists are read from their line, a text of sevens is lent, as long as the case says, and what became of it is told.
 use crate::lines::put_writing;
 use case_answer_lines::unreadable;
-use case_field_reads::{numbers_field, small_numbers_field};
+use case_field_reads::list_field;
 use case_parts::{length_of, read_grid};
 use case_text::front;
 use sheet::write_sheet;
@@ -41,16 +41,11 @@ fn lists_read(line: &[u8], offsets: &[usize], tiles: &[u32], out: &mut [u8]) -> 
 // The answer to a case: the sheet of its lists.
 pub(crate) fn answer_writing(line: &[u8], out: &mut [u8]) -> usize {
     let mut offsets = [0usize; 1100];
-    let ends = numbers_field(line, b"offsets", &mut offsets);
     let mut tiles = [0u32; 65600];
-    let listed = small_numbers_field(line, b"tiles", &mut tiles);
-    if !ends.readable || !listed.readable {
-        return unreadable(out);
+    let ends = list_field(line, b"offsets", &mut offsets);
+    let listed = list_field(line, b"tiles", &mut tiles);
+    match (ends, listed) {
+        (Some(m), Some(n)) => lists_read(line, front(&offsets, m), front(&tiles, n), out),
+        _ => unreadable(out),
     }
-    lists_read(
-        line,
-        front(&offsets, ends.count),
-        front(&tiles, listed.count),
-        out,
-    )
 }

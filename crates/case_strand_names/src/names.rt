@@ -1,10 +1,7 @@
 // The names of a case's strands, read into two tables that other fields share: one of bytes, one of numbers.
 use case_field_reads::at_most;
 use case_lists::text_into;
-use case_parts::{
-    bytes_between, bytes_from, counted, is_read, numbers_between, numbers_from, text_between,
-    three_read,
-};
+use case_parts::{counted, is_read, list_between, part_from, text_between, three_read};
 use case_text::{field, has_field};
 use name_strands::{NUMERALS, StrandNames};
 use text_entries::Names;
@@ -24,11 +21,11 @@ impl NamesRead {
     pub(crate) fn names<'a>(&self, bytes: &'a [u8], numbers: &'a [usize]) -> StrandNames<'a> {
         StrandNames {
             names: Names {
-                text: bytes_from(bytes, 0, self.text),
-                offsets: numbers_from(numbers, 0, self.offsets),
-                present: bytes_from(bytes, 32800, self.present),
+                text: part_from(bytes, 0, self.text),
+                offsets: part_from(numbers, 0, self.offsets),
+                present: part_from(bytes, 32800, self.present),
             },
-            numerals: bytes_from(bytes, 32880, self.numerals),
+            numerals: part_from(bytes, 32880, self.numerals),
         }
     }
 }
@@ -56,9 +53,9 @@ fn four_read(a: usize, b: usize, c: usize, d: usize) -> bool {
 // The names from 0 on, their presence from 32800, the numerals from 32880; the offsets from 0.
 pub(crate) fn read_names(line: &[u8], bytes: &mut [u8], numbers: &mut [usize]) -> NamesRead {
     let text = text_between(line, b"text", bytes, 0, 16400);
-    let present = bytes_between(line, b"present", bytes, 32800, 32880);
+    let present = list_between(line, b"present", bytes, 32800, 32880);
     let numerals = numerals_between(line, bytes, 32880, 33136);
-    let offsets = numbers_between(line, b"offsets", numbers, 0, 80);
+    let offsets = list_between(line, b"offsets", numbers, 0, 80);
     NamesRead {
         readable: four_read(text, present, numerals, offsets),
         text,

@@ -7,9 +7,7 @@ use case_answer_lists::put_small_numbers;
 use case_field_reads::{at_most, is_number, number_in};
 use case_fields::number_field;
 use case_lent::all_small_numbers;
-use case_parts::{
-    bytes_from, length_of, numbers_between, numbers_from, read_grid, text_between, three_read,
-};
+use case_parts::{length_of, list_between, part_from, read_grid, text_between, three_read};
 use sdc2d::{SeedList, seeds_by_name};
 use text_entries::Entries;
 use units::Refusal;
@@ -27,10 +25,10 @@ impl SeedsRead {
     // The seeds in the two tables.
     fn seeds<'a>(&self, bytes: &'a [u8], numbers: &'a [usize]) -> SeedList<'a> {
         SeedList {
-            places: numbers_from(numbers, 80, self.places),
+            places: part_from(numbers, 80, self.places),
             names: Entries {
-                text: bytes_from(bytes, 16400, self.text),
-                offsets: numbers_from(numbers, 144, self.offsets),
+                text: part_from(bytes, 16400, self.text),
+                offsets: part_from(numbers, 144, self.offsets),
             },
         }
     }
@@ -39,8 +37,8 @@ impl SeedsRead {
 // Their names from 16400 on; the places from 80, the offsets from 144.
 fn read_seeds(line: &[u8], bytes: &mut [u8], numbers: &mut [usize]) -> SeedsRead {
     let text = text_between(line, b"seed_text", bytes, 16400, 32800);
-    let places = numbers_between(line, b"places", numbers, 80, 144);
-    let offsets = numbers_between(line, b"seed_offsets", numbers, 144, 208);
+    let places = list_between(line, b"places", numbers, 80, 144);
+    let offsets = list_between(line, b"seed_offsets", numbers, 144, 208);
     SeedsRead {
         readable: three_read(text, places, offsets),
         places,

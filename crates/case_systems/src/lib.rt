@@ -8,7 +8,7 @@ mod sizes;
 
 use bay_system::Sizes;
 pub use case_constraints::{ConstraintsRead, bays, read_constraints};
-pub use case_field_reads::{ListRead, numbers_field, small_numbers_field};
+pub use case_field_reads::list_field;
 use case_matrices::matrices_into;
 use lists::lists_into;
 use sizes::read_sizes;

@@ -1,7 +1,7 @@
 // The lists of a system: glues, logarithms and seeds.
 ghost use Rattle.case_systems.specs.Within.{ListsWithin};
 
-use case_field_reads::{floats_field, small_numbers_field};
+use case_field_reads::list_field;
 
 // Whether all four could be read, and how many items each has.
 #[derive(Clone, Copy)]
@@ -11,11 +11,6 @@ pub(crate) struct Lists {
     pub scaffold: usize,
     pub logs: usize,
     pub seeds: usize,
-}
-
-// Whether each of four lists could be read.
-fn all(a: bool, b: bool, c: bool, d: bool) -> bool {
-    a && b && c && d
 }
 
 // Reads the four lists.
@@ -28,15 +23,15 @@ pub(crate) fn lists_into(
 ) -> Lists
     ensures { ListsWithin result strand_glues.old scaffold.old logs.old seeds.old }
 {
-    let own = small_numbers_field(line, b"strand_glues", strand_glues);
-    let bays = small_numbers_field(line, b"scaffold", scaffold);
-    let each = floats_field(line, b"logs", logs);
-    let triples = small_numbers_field(line, b"seeds", seeds);
+    let own = list_field(line, b"strand_glues", strand_glues);
+    let bays = list_field(line, b"scaffold", scaffold);
+    let each = list_field(line, b"logs", logs);
+    let triples = list_field(line, b"seeds", seeds);
     Lists {
-        readable: all(own.readable, bays.readable, each.readable, triples.readable),
-        strand_glues: own.count,
-        scaffold: bays.count,
-        logs: each.count,
-        seeds: triples.count,
+        readable: own.is_some() && bays.is_some() && each.is_some() && triples.is_some(),
+        strand_glues: own.unwrap_or(0),
+        scaffold: bays.unwrap_or(0),
+        logs: each.unwrap_or(0),
+        seeds: triples.unwrap_or(0),
     }
 }

@@ -11,7 +11,12 @@ pub(crate) struct SizesRead {
 }
 
 // Whether each number could be read.
-fn all_numbers(rows: Option<u64>, cols: Option<u64>, strands: Option<u64>, glues: Option<u64>) -> bool {
+fn all_numbers(
+    rows: Option<u64>,
+    cols: Option<u64>,
+    strands: Option<u64>,
+    glues: Option<u64>,
+) -> bool {
     is_number(rows) && is_number(cols) && is_number(strands) && is_number(glues)
 }
 

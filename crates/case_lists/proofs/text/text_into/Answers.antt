@@ -29,27 +29,24 @@ returns-then-out-n c = let a = c.args in
 pub overflow_cast-out : goal.overflow_cast-out
 overflow_cast-out c =
     let part = take (c.sign_end-end.result - c.loop-at.at) (drop c.loop-at.at c.args.value.now) in
-    let r : (is_sign part ≡ true) × (byte_of part ≡ c.in-Some.b) = sign_of_lem _ c.in-Some.b (sym c.sign.ensures ∙ c.in-Some.is) in
+    let r : (is_sign part ≡ true) × (byte_of part ≡ c.in_ok-out.field-0) = sign_of_lem _ c.in_ok-out.field-0 (sym c.sign.ensures ∙ c.in_ok-out.was) in
     let same = r.1 in
     omega (arith, sign_small part r.0)
 
-pub shape_of-out-in-None : goal.shape_of-out-in-None
-shape_of-out-in-None c = c.loop-at.invariant.1.long
-
-pub returns-in-None : goal.returns-in-None
-returns-in-None c = let a = c.args in
+pub returns-in_err-out : goal.returns-in_err-out
+returns-in_err-out c = let a = c.args in
     let ws = signs a.value.now in
-    let bad = sign_not _ (sym c.sign.ensures ∙ c.in-None.is) in
+    let bad = sign_not _ (sym c.sign.ensures ∙ c.in_err-out.was) in
     let e = c.sign_end-end.result in
     let f : Filling is_sign byte_of (signs a.value.now) a.out.now (take (e - c.loop-at.at) (drop c.loop-at.at a.value.now) ∷ signs (drop e a.value.now)) c.loop-at.out c.loop-at.n = rw c.sign_end-end.ensures.split at c.loop-at.invariant.1 in
     record {
-      value = filling_stops is_sign byte_of ws a.out.now c.loop-at.out c.loop-at.n _ _ f bad;
+      value = c.from_residual.ensures ∙ filling_stops is_sign byte_of ws a.out.now c.loop-at.out c.loop-at.n _ _ f bad;
       out_after = filled_before is_sign byte_of ws a.out.now c.loop-at.out c.loop-at.n _ _ f bad;
     }
 
 pub loop-at-preserved : goal.loop-at-preserved
 loop-at-preserved c = let a = c.args in
-    (c.sign_end-end.ensures.within, filling_goes_on is_sign byte_of (signs a.value.now) a.out.now c.loop-at.out c.loop-at.n _ _ ((rw c.sign_end-end.ensures.split at c.loop-at.invariant.1)) c.in-Some.b ((sign_of_lem _ c.in-Some.b (sym c.sign.ensures ∙ c.in-Some.is))) ((omega (arith, c.loop-at.invariant.1.long, c.if-out-n.false))))
+    (c.sign_end-end.ensures.within, filling_goes_on is_sign byte_of (signs a.value.now) a.out.now c.loop-at.out c.loop-at.n _ _ ((rw c.sign_end-end.ensures.split at c.loop-at.invariant.1)) c.in_ok-out.field-0 ((sign_of_lem _ c.in_ok-out.field-0 (sym c.sign.ensures ∙ c.in_ok-out.was))) ((omega (arith, c.loop-at.invariant.1.long, c.if-out-n.false))))
 
 pub shape_of-out : goal.shape_of-out
 shape_of-out c = c.loop-at.invariant.1.long
