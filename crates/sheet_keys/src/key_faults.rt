@@ -54,6 +54,7 @@ fn fault_of(nameless: bool, first_fits: bool, second_fits: bool) -> Option<usize
 }
 
 // Whether the field at a place is a decimal where numbers are to be given, and blank where none are.
+#[tactic(auto, unfolding(crate::specs::SheetKeys::fits))]
 fn fits(sheet: &[u8], at: usize, numbers: bool) -> bool
     requires { at ≤ length sheet.now }
     ensures { result ≡ fits numbers (content (drop at sheet.now)) }

@@ -34,12 +34,7 @@ pub fn put_places(sheet: &[u8], records: usize, places: &mut [usize]) -> Result<
 
 // Keeps the first fault that was found: of one line the row is told before the column.
 #[tactic(auto, unfolding(crate::specs::Seeds::first_found))]
-fn first_fault(
-    fault: Result<(), Place>,
-    row: bool,
-    column: bool,
-    line: usize,
-) -> Result<(), Place>
+fn first_fault(fault: Result<(), Place>, row: bool, column: bool, line: usize) -> Result<(), Place>
     ensures { result ≡ first_found fault row column line }
 {
     fault?;
@@ -53,6 +48,7 @@ fn first_fault(
 }
 
 // Puts the names of the seeds and answers how many bytes they take.
+#[tactic(auto, unfolding(crate::specs::Seeds::seed_names))]
 pub fn put_seed_names(
     sheet: &[u8],
     records: usize,
