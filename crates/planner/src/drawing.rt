@@ -1,77 +1,62 @@
 // The drawing of a layout, in a file that is whole or is not there.
-use crate::messages::{begin, finish, say};
-use name_strands::NUMERALS;
+use crate::line::Line;
+use crate::messages::{Told, begin, finish, say};
+use crate::task::{Found, Tables, Task};
+use crate::words::word_at;
 use plan_layout_svg::put_svg;
 use std::io::Write;
-use text_fronts::front;
-use text_put::put_text;
 
-// Draws a layout into the file that the word at a place names; place 0 asks for none.
+// Draws a layout into the file that the word at a place names.
 pub(crate) fn draw(
-    rt: &HostRuntime,
-    folder: &[u8],
+    task: &Task<'_>,
+    tables: &Tables<'_>,
+    found: &Found<'_>,
     place: usize,
-    rows: usize,
-    cols: usize,
-    layout: &[u32],
-    text: &[u8],
-    name_offsets: &[usize],
-    present: &[u8],
-    marks: &[u8],
-    energy: f64,
     page: &mut [u8],
-) -> bool {
-    if place == 0 {
-        return true;
-    }
-    let end = put_svg(
-        rows,
-        cols,
-        layout,
-        text,
-        name_offsets,
-        present,
-        &NUMERALS,
-        marks,
-        energy,
-        page,
+) -> Result<(), Told> {
+    let mut drawing = Line::over(page);
+    drawing.end = put_svg(
+        tables.system.sizes.rows,
+        tables.system.sizes.cols,
+        found.layout,
+        &tables.names,
+        found.marks,
+        found.energy,
+        drawing.room,
         0,
     );
-    if page.len() <= end {
-        say(
-            folder,
+    if drawing.is_full() {
+        return Err(say(
+            task.folder,
             b"the drawing takes more than 524287 bytes, the planner's room",
-        );
-        return false;
+        ));
     }
-    let mut file = io::buffer();
-    let n = text_host::arg(rt, place, &mut file);
-    write_file(rt, folder, front(&file, n), front(page, end))
+    let mut room = io::buffer();
+    write_file(task, word_at(task.rt, place, &mut room), drawing.text())
 }
 
 // Writes a file under another name first, so that under its own it is whole or what it was.
-fn write_file(rt: &HostRuntime, folder: &[u8], file: &[u8], text: &[u8]) -> bool {
-    let mut partial = [0u8; 4200];
-    let name = put_text(&mut partial, 0, file);
-    let end = put_text(&mut partial, name, b".partial");
-    let own = front(&partial, end);
-    if !write_new(rt, own, text) {
-        say_unwritten(
-            folder,
-            own,
+fn write_file(task: &Task<'_>, file: &[u8], text: &[u8]) -> Result<(), Told> {
+    let mut room = [0u8; 4200];
+    let mut name = Line::over(&mut room);
+    name.put(file);
+    name.put(b".partial");
+    let partial = name.text();
+    if !write_new(task.rt, partial, text) {
+        return Err(say_unwritten(
+            task.folder,
+            partial,
             b" cannot be made; where it is left from a run that was stopped, remove it",
-        );
-        return false;
+        ));
     }
-    if text_host::rename(rt, own, file).is_err() {
-        let _ = text_host::remove(rt, own);
-        say_unwritten(folder, file, b" cannot be written");
-        return false;
+    if text_host::rename(task.rt, partial, file).is_err() {
+        let _ = text_host::remove(task.rt, partial);
+        return Err(say_unwritten(task.folder, file, b" cannot be written"));
     }
-    true
+    Ok(())
 }
 
-// Makes a file that is not there yet; one that could not be written whole is taken away.
+// Makes a file that is not there yet, and answers whether it could be written whole; where not, it is taken away.
 fn write_new(rt: &HostRuntime, file: &[u8], text: &[u8]) -> bool {
     match text_host::create(rt, file) {
         Ok(mut made) => {
@@ -86,9 +71,9 @@ fn write_new(rt: &HostRuntime, file: &[u8], text: &[u8]) -> bool {
 }
 
 // Says that a file could not be written.
-fn say_unwritten(folder: &[u8], file: &[u8], text: &[u8]) {
-    let mut line = [0u8; 12288];
-    let at = begin(&mut line, folder);
-    let name = put_text(&mut line, at, file);
-    finish(&mut line, name, text);
+fn say_unwritten(folder: &[u8], file: &[u8], text: &[u8]) -> Told {
+    let mut room = [0u8; 12288];
+    let mut line = begin(&mut room, folder);
+    line.put(file);
+    finish(&mut line, text)
 }

@@ -1,105 +1,53 @@
 // The grid of names, with its energy.
-use crate::messages::say;
-use crate::standard::{put_kcal, write_front};
-use name_strands::NUMERALS;
+use crate::line::Line;
+use crate::messages::{Told, say};
+use crate::standard::{put_kcal, write_out};
+use crate::task::{Found, Tables, Task};
 use plan_layout_text::put_layout;
-use text_put::put_text;
 
-// The folder and the least energy.
-fn put_head(page: &mut [u8], folder: &[u8], exact: bool, energy: f64) -> usize {
-    let name = put_text(page, 0, folder);
-    let colon = put_text(page, name, b": ");
-    let number = put_kcal(page, colon, exact, energy);
-    put_text(page, number, b"\n\n")
+// Puts the folder, the least energy and the grid of tile names.
+fn put_grid(line: &mut Line<'_>, task: &Task<'_>, tables: &Tables<'_>, found: &Found<'_>) {
+    line.put(task.folder);
+    line.put(b": ");
+    put_kcal(line, task.wish.exact, found.energy);
+    line.put(b"\n\n");
+    line.end = put_layout(
+        tables.system.sizes.rows,
+        tables.system.sizes.cols,
+        found.layout,
+        &tables.names,
+        line.room,
+        line.end,
+    );
+    line.put(b"\n");
 }
 
-// Puts the folder, the least energy and the grid of tile names, and answers where they end.
-fn put_grid(
-    folder: &[u8],
-    exact: bool,
-    rows: usize,
-    cols: usize,
-    layout: &[u32],
-    text: &[u8],
-    name_offsets: &[usize],
-    present: &[u8],
-    energy: f64,
+// Tests that the grid of names has room.
+pub(crate) fn check_room(
+    task: &Task<'_>,
+    tables: &Tables<'_>,
+    found: &Found<'_>,
     page: &mut [u8],
-) -> usize {
-    let head = put_head(page, folder, exact, energy);
-    let grid = put_layout(
-        rows,
-        cols,
-        layout,
-        text,
-        name_offsets,
-        present,
-        &NUMERALS,
-        page,
-        head,
-    );
-    put_text(page, grid, b"\n")
-}
-
-// Whether the grid of names has room; where not, a sentence says so.
-pub(crate) fn has_room(
-    folder: &[u8],
-    exact: bool,
-    rows: usize,
-    cols: usize,
-    layout: &[u32],
-    text: &[u8],
-    name_offsets: &[usize],
-    present: &[u8],
-    energy: f64,
-    page: &mut [u8],
-) -> bool {
-    let end = put_grid(
-        folder,
-        exact,
-        rows,
-        cols,
-        layout,
-        text,
-        name_offsets,
-        present,
-        energy,
-        page,
-    );
-    if end < page.len() {
-        return true;
+) -> Result<(), Told> {
+    let mut line = Line::over(page);
+    put_grid(&mut line, task, tables, found);
+    if line.is_full() {
+        return Err(say(
+            task.folder,
+            b"the grid of names takes more than 524287 bytes, the planner's room; shorten the longest name, or ask for --sheet",
+        ));
     }
-    say(
-        folder,
-        b"the grid of names takes more than 524287 bytes, the planner's room; shorten the longest name, or ask for --sheet",
-    );
-    false
+    Ok(())
 }
 
 // Writes the folder, the least energy and the grid of tile names.
 pub(crate) fn write_grid(
-    folder: &[u8],
-    exact: bool,
-    rows: usize,
-    cols: usize,
-    layout: &[u32],
-    text: &[u8],
-    name_offsets: &[usize],
-    present: &[u8],
-    energy: f64,
+    task: &Task<'_>,
+    tables: &Tables<'_>,
+    found: &Found<'_>,
     page: &mut [u8],
-) -> bool {
-    let end = put_grid(
-        folder,
-        exact,
-        rows,
-        cols,
-        layout,
-        text,
-        name_offsets,
-        present,
-        energy,
-        page,
-    );
-    write_front(folder, page, end)
+) -> Result<(), Told> {
+    let mut line = Line::over(page);
+    put_grid(&mut line, task, tables, found);
+    write_out(task.folder, line.text())
 }

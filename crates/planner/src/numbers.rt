@@ -1,39 +1,30 @@
 // The layout as a sheet of numbers, one list a bay, which the register can import.
-use crate::messages::say;
-use crate::standard::write_front;
+use crate::messages::{Told, say};
+use crate::standard::write_out;
+use bay_system::Sizes;
 use sheet::write_sheet;
-use units::CountAnswer;
-
-// The offsets of lists of one number each.
-fn put_steps(offsets: &mut [usize]) {
-    let mut i = 0;
-    while i < offsets.len() {
-        offsets[i] = i;
-        i += 1;
-    }
-}
+use text_fronts::front;
 
 // Writes the sheet.
 pub(crate) fn write_numbers(
     folder: &[u8],
-    rows: usize,
-    cols: usize,
+    sizes: &Sizes,
     layout: &[u32],
     page: &mut [u8],
-) -> bool {
+) -> Result<(), Told> {
+    // The offsets of lists of one number each.
     let mut offsets = [0usize; 1025];
-    put_steps(&mut offsets);
+    for (i, offset) in offsets.iter_mut().enumerate() {
+        *offset = i;
+    }
     match write_sheet(
-        rows,
-        cols,
-        text_fronts::front(&offsets, layout.len() + 1),
+        sizes.rows,
+        sizes.cols,
+        front(&offsets, layout.len() + 1),
         layout,
         page,
     ) {
-        CountAnswer::Refused(_) => {
-            say(folder, b"the layout does not fit a sheet");
-            false
-        }
-        CountAnswer::Count(n) => write_front(folder, page, n),
+        Ok(end) => write_out(folder, front(page, end)),
+        Err(_) => Err(say(folder, b"the layout does not fit a sheet")),
     }
 }

@@ -1,109 +1,70 @@
 // Why each bay holds what it holds.
-use crate::messages::{column_of, put_with, row_of};
-use crate::standard::{put_mark, put_strand, write_front};
+use crate::bays::Bay;
+use crate::line::Line;
+use crate::messages::Told;
+use crate::standard::{put_mark, put_strand, write_out};
+use crate::task::{Found, Tables};
+use name_strands::StrandNames;
 use plan_bay_names::tile_at;
 use sets::holds;
-use text_put::put_text;
 
 // Writes a line for each bay.
 pub(crate) fn write_reasons(
     folder: &[u8],
-    cols: usize,
-    text: &[u8],
-    name_offsets: &[usize],
-    present: &[u8],
-    layout: &[u32],
-    marks: &[u8],
+    tables: &Tables<'_>,
+    found: &Found<'_>,
     sets: &[u64],
-) -> bool {
-    let mut bay = 0;
-    while bay < marks.len() {
-        if !write_reason(
+) -> Result<(), Told> {
+    for (bay, mark) in found.marks.iter().enumerate() {
+        write_reason(
             folder,
-            row_of(bay, cols),
-            column_of(bay, cols),
-            text,
-            name_offsets,
-            present,
-            tile_at(layout, bay),
-            marks[bay],
+            &tables.names,
+            Bay::numbered(bay, tables.system.sizes.cols),
+            tile_at(found.layout, bay),
+            *mark,
             set_at(sets, bay),
-        ) {
-            return false;
-        }
-        bay += 1;
+        )?;
     }
-    true
+    Ok(())
 }
 
 // The set of a bay, empty past the end.
 fn set_at(sets: &[u64], bay: usize) -> u64 {
-    if bay < sets.len() {
-        return sets[bay];
-    }
-    0
+    sets.get(bay).copied().unwrap_or(0)
 }
 
 // Writes the line of a bay: its place from 1, what it holds, why, and the strands that are legal there.
 fn write_reason(
     folder: &[u8],
-    row: usize,
-    column: usize,
-    text: &[u8],
-    name_offsets: &[usize],
-    present: &[u8],
+    names: &StrandNames<'_>,
+    bay: Bay,
     tile: u32,
     mark: u8,
     set: u64,
-) -> bool {
-    let mut line = [0u8; 36864];
-    let first = put_with(&mut line, 0, b"bay ", row);
-    let second = put_with(&mut line, first, b",", column);
-    let colon = put_text(&mut line, second, b": ");
-    let name = put_strand(&mut line, colon, text, name_offsets, present, tile);
-    let comma = put_text(&mut line, name, b", ");
-    let why = put_mark(&mut line, comma, mark);
-    let word = put_text(&mut line, why, b"; legal: ");
-    let legal = put_set(&mut line, word, text, name_offsets, present, set);
-    let end = put_text(&mut line, legal, b"\n");
-    write_front(folder, &line, end)
+) -> Result<(), Told> {
+    let mut room = [0u8; 36864];
+    let mut line = Line::over(&mut room);
+    line.put_with(b"bay ", bay.row);
+    line.put_with(b",", bay.column);
+    line.put(b": ");
+    put_strand(&mut line, names, tile);
+    line.put(b", ");
+    put_mark(&mut line, mark);
+    line.put(b"; legal: ");
+    put_set(&mut line, names, set);
+    line.put(b"\n");
+    write_out(folder, line.text())
 }
 
-// The strands of a set, by rising number.
-fn put_set(
-    line: &mut [u8],
-    at: usize,
-    text: &[u8],
-    name_offsets: &[usize],
-    present: &[u8],
-    set: u64,
-) -> usize {
-    let mut next = at;
-    let mut strand = 0u32;
-    while strand < 64 {
-        next = put_member(line, at, next, text, name_offsets, present, set, strand);
-        strand += 1;
+// The strands of a set, by rising number, with a comma before each that is not the first.
+fn put_set(line: &mut Line<'_>, names: &StrandNames<'_>, set: u64) {
+    let first = line.end;
+    for strand in 0..64u32 {
+        if holds(set, strand) {
+            if line.end != first {
+                line.put(b", ");
+            }
+            put_strand(line, names, strand);
+        }
     }
-    next
-}
-
-// A strand, where a set has it, with a comma before it unless it is the first.
-fn put_member(
-    line: &mut [u8],
-    first: usize,
-    at: usize,
-    text: &[u8],
-    name_offsets: &[usize],
-    present: &[u8],
-    set: u64,
-    strand: u32,
-) -> usize {
-    if !holds(set, strand) {
-        return at;
-    }
-    if at == first {
-        return put_strand(line, at, text, name_offsets, present, strand);
-    }
-    let comma = put_text(line, at, b", ");
-    put_strand(line, comma, text, name_offsets, present, strand)
 }

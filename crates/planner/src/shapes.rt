@@ -1,59 +1,46 @@
 // Whether a sheet is a table, and what is said where it is none.
-ghost use Rattle.std.specs.Prelude.{◌^◌, ◌≤◌, ◌<◌};
+ghost use Rattle.std.specs.Prelude.{◌^◌, ◌≤◌, ◌<◌, IfOk};
 
-use crate::messages::{begin, finish, put_with, say_field};
-use sheet_records::{TableCheck, check_table};
-use text_put::put_text;
+use crate::messages::{Told, begin, finish, say_field, say_sheet};
+use sheet_records::check_table;
 
-// Tests a sheet whose records have so many fields, and of which there are at most so many.
-pub(crate) fn table_of(sheet: &[u8], width: usize, most: usize) -> TableCheck
-    requires { (width < 2 ^ 32) × (most < 2 ^ 32) }
-    ensures { result.records ≤ most }
-{
-    check_table(sheet, width, most)
+// What is said of a sheet that is no table: its name, and what is wrong where it has too many records, with the refusal that these are, or where a
+// record is none.
+#[derive(Clone, Copy)]
+pub(crate) struct Form<'a> {
+    pub(crate) sheet: &'a [u8],
+    pub(crate) refusal: &'a [u8],
+    pub(crate) many: &'a [u8],
+    pub(crate) record: &'a [u8],
 }
 
-// Whether a sheet has records, all of them of the right number of fields, and no more than `most`; where not, a sentence says so, with the
-// refusal that too many records are.
-pub(crate) fn is_table(
+// How many records a sheet has, all of them of so many fields, and no more than so many.
+#[tactic(auto, using(sheet_records::proofs::Tables::answer_few))]
+pub(crate) fn records_of(
     folder: &[u8],
-    sheet: &[u8],
-    check: TableCheck,
+    text: &[u8],
+    width: usize,
     most: usize,
-    refusal: &[u8],
-    many: &[u8],
-    form: &[u8],
-) -> bool {
-    if most < check.line {
-        say_many(folder, refusal, sheet, check.line, many);
-        return false;
+    form: &Form<'_>,
+) -> Result<usize, Told>
+    requires { (width < 2 ^ 32) × (most < 2 ^ 32) }
+    ensures { IfOk result (λ n. n ≤ most) }
+{
+    match check_table(text, width, most) {
+        Ok(0) => Err(say_sheet(folder, form.sheet, b" has no record")),
+        Ok(records) => Ok(records),
+        Err(place) if most < place.line => Err(say_many(folder, place.line, form)),
+        Err(place) => Err(say_field(folder, form.sheet, place, form.record)),
     }
-    if check.line != 0 {
-        say_field(folder, sheet, check.line, check.field, form);
-        return false;
-    }
-    if check.records == 0 {
-        say_none(folder, sheet);
-        return false;
-    }
-    true
 }
 
 // Says that there are too many records.
-fn say_many(folder: &[u8], refusal: &[u8], sheet: &[u8], row: usize, many: &[u8]) {
-    let mut line = [0u8; 8192];
-    let at = begin(&mut line, folder);
-    let number = put_text(&mut line, at, refusal);
-    let name = put_text(&mut line, number, sheet);
-    let end = put_with(&mut line, name, b", line ", row);
-    let next = put_text(&mut line, end, b": ");
-    finish(&mut line, next, many);
-}
-
-// Says that there is none.
-fn say_none(folder: &[u8], sheet: &[u8]) {
-    let mut line = [0u8; 8192];
-    let at = begin(&mut line, folder);
-    let name = put_text(&mut line, at, sheet);
-    finish(&mut line, name, b" has no record");
+fn say_many(folder: &[u8], row: usize, form: &Form<'_>) -> Told {
+    let mut room = [0u8; 8192];
+    let mut line = begin(&mut room, folder);
+    line.put(form.refusal);
+    line.put(form.sheet);
+    line.put_with(b", line ", row);
+    line.put(b": ");
+    finish(&mut line, form.many)
 }

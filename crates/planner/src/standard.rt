@@ -1,68 +1,53 @@
 // Standard output, and the texts that several reports share.
-use crate::messages::say;
-use name_strands::NUMERALS;
+use crate::line::Line;
+use crate::messages::{Told, say};
+use name_strands::StrandNames;
 use plan_bay_names::name_of;
 use text_energy::put_energy;
-use text_fronts::front;
-use text_put::{put_float, put_text};
+use text_put::put_float;
 
-// Writes the front of a text to standard output.
-pub(crate) fn write_front(folder: &[u8], text: &[u8], end: usize) -> bool {
-    if io::write_all(1, front(text, end)) {
-        return true;
+// Writes a text to standard output.
+pub(crate) fn write_out(folder: &[u8], text: &[u8]) -> Result<(), Told> {
+    if io::write_all(1, text) {
+        return Ok(());
     }
-    say(folder, b"standard output cannot be written");
-    false
+    Err(say(folder, b"standard output cannot be written"))
 }
 
 // An energy with two decimals; an infinite one is `inf`, as a logarithm may be.
-fn put_finite(out: &mut [u8], at: usize, energy: f64) -> usize {
+fn put_finite(line: &mut Line<'_>, energy: f64) {
     if units::is_finite(energy) {
-        return put_energy(out, at, energy);
+        line.end = put_energy(line.room, line.end, energy);
+    } else {
+        line.put(b"inf");
     }
-    put_text(out, at, b"inf")
 }
 
 // An energy in kcal/mol, and its bits where they are asked for.
-pub(crate) fn put_kcal(out: &mut [u8], at: usize, exact: bool, energy: f64) -> usize {
-    let number = put_finite(out, at, energy);
-    let unit = put_text(out, number, b" kcal/mol");
-    if !exact {
-        return unit;
+pub(crate) fn put_kcal(line: &mut Line<'_>, exact: bool, energy: f64) {
+    put_finite(line, energy);
+    line.put(b" kcal/mol");
+    if exact {
+        line.put(b", bits ");
+        line.end = put_float(line.room, line.end, energy);
     }
-    let word = put_text(out, unit, b", bits ");
-    put_float(out, word, energy)
 }
 
 // What a strand is called.
-pub(crate) fn put_strand(
-    out: &mut [u8],
-    at: usize,
-    text: &[u8],
-    name_offsets: &[usize],
-    present: &[u8],
-    strand: u32,
-) -> usize {
+pub(crate) fn put_strand(line: &mut Line<'_>, names: &StrandNames<'_>, strand: u32) {
     if strand == 0 {
-        return put_text(out, at, b"empty");
+        line.put(b"empty");
+    } else {
+        line.put(name_of(names, strand));
     }
-    put_text(
-        out,
-        at,
-        name_of(text, name_offsets, present, &NUMERALS, strand),
-    )
 }
 
-// The reason of a bay, by its mark.
-pub(crate) fn put_mark(out: &mut [u8], at: usize, mark: u8) -> usize {
-    if mark == 1 {
-        return put_text(out, at, b"restricted by a list");
-    }
-    if mark == 2 {
-        return put_text(out, at, b"seeded");
-    }
-    if mark == 3 {
-        return put_text(out, at, b"kept empty by a list of 0");
-    }
-    put_text(out, at, b"free")
+// The reason of a bay, by its mark, which is a byte of a lent table.
+pub(crate) fn put_mark(line: &mut Line<'_>, mark: u8) {
+    line.put(match mark {
+        1 => b"restricted by a list",
+        2 => b"seeded",
+        3 => b"kept empty by a list of 0",
+        _ => b"free",
+    });
 }

@@ -1,169 +1,140 @@
-// The sheets of strands and scaffold have the right shape, and their glue names are registered.
-ghost use Rattle.std.specs.Prelude.{◌*◌, ◌≤◌, length};
-
-use crate::keys::plan_keys;
-use crate::messages::say;
-use crate::refusals::say_registering;
-use crate::shapes::{is_table, table_of};
-use crate::wish::Wish;
-use sheet_glues::register_sheets;
+// The sheets have the right shape, and the tables of the system are read from them.
+use crate::glues::register;
+use crate::keys::fill_matrices;
+use crate::lists::plan_lists;
+use crate::messages::{Told, say};
+use crate::seeds::read_seeds;
+use crate::shapes::{Form, records_of};
+use crate::strands::{read_logs, read_names};
+use crate::task::{Extent, Sheets, Task};
+use crate::temperature::read_temperature;
+use bay_system::{Sizes, System};
+use name_strands::{NUMERALS, StrandNames};
 use sheet_records::first_width;
-use units::CountAnswer;
+use text_entries::Names;
+use text_fronts::front;
 
-// Plans a folder's sheets.
-pub(crate) fn plan_sheets(
-    rt: &HostRuntime,
-    folder: &[u8],
-    wish: Wish,
-    strand_sheet: &[u8],
-    scaffold_sheet: &[u8],
-    keys: &[u8],
-    seed_sheet: &[u8],
-    temperature: &[u8],
-    lists: &[u8],
-) -> bool {
-    let strands = table_of(strand_sheet, 7, 63);
-    if !is_table(
+// How many strands there are, and how large the grid is.
+fn extent_of(folder: &[u8], sheets: &Sheets<'_>) -> Result<Extent, Told> {
+    let records = records_of(
         folder,
-        b"strands.csv",
-        strands,
+        sheets.strands,
+        7,
         63,
-        b"refusal 1: ",
-        b"there are more than 63 strands; with the empty one a system has at most 64",
-        b"a strand has 7 fields: its name, the logarithm of its concentration, and its glues north, east, south, west and bottom; quotes stand around a whole field",
-    ) {
-        return false;
-    }
-    let cols = first_width(scaffold_sheet);
+        &Form {
+            sheet: b"strands.csv",
+            refusal: b"refusal 1: ",
+            many: b"there are more than 63 strands; with the empty one a system has at most 64",
+            record: b"a strand has 7 fields: its name, the logarithm of its concentration, and its glues north, east, south, west and bottom; quotes stand around a whole field",
+        },
+    )?;
+    let cols = first_width(sheets.scaffold);
     if 32 < cols {
-        say(
+        return Err(say(
             folder,
             b"refusal 1: scaffold.csv has more than 32 columns; a grid has at most 32",
-        );
-        return false;
+        ));
     }
-    let grid = table_of(scaffold_sheet, cols, 32);
-    if !is_table(
+    let rows = records_of(
         folder,
-        b"scaffold.csv",
-        grid,
-        32,
-        b"refusal 1: ",
-        b"there are more than 32 rows; a grid has at most 32",
-        b"every row of the grid has a field for each column, and quotes stand around a whole field",
-    ) {
-        return false;
-    }
-    plan_grid(
-        rt,
-        folder,
-        wish,
-        strand_sheet,
-        scaffold_sheet,
-        keys,
-        seed_sheet,
-        temperature,
-        lists,
-        strands.records,
-        grid.records,
+        sheets.scaffold,
         cols,
-    )
-}
-
-// Registers the names into tables of the sizes of the grid.
-fn register_into(
-    strand_sheet: &[u8],
-    scaffold_sheet: &[u8],
-    records: usize,
-    rows: usize,
-    cols: usize,
-    text: &mut [u8],
-    offsets: &mut [usize],
-    present: &mut [u8],
-    strand_glues: &mut [u32],
-    scaffold: &mut [u32],
-    bases: &mut [usize],
-) -> CountAnswer
-    requires records_bound { (records ≤ 63) × (rows * cols ≤ 1024) }
-    requires in_bounds { (1400 ≤ length offsets.old) × (1400 ≤ length present.old) }
-    requires in_bounds_2 { (320 ≤ length strand_glues.old) × (1024 ≤ length scaffold.old) }
-{
-    register_sheets(
-        strand_sheet,
-        scaffold_sheet,
+        32,
+        &Form {
+            sheet: b"scaffold.csv",
+            refusal: b"refusal 1: ",
+            many: b"there are more than 32 rows; a grid has at most 32",
+            record: b"every row of the grid has a field for each column, and quotes stand around a whole field",
+        },
+    )?;
+    Ok(Extent {
+        records,
         rows,
         cols,
-        records + 1,
+    })
+}
+
+// Plans a folder's sheets.
+pub(crate) fn plan_sheets(task: &Task<'_>, sheets: &Sheets<'_>) -> Result<(), Told> {
+    let extent = extent_of(task.folder, sheets)?;
+    plan_extent(task, sheets, &extent)
+}
+
+// Names of strands by their entries.
+fn strand_names<'a>(text: &'a [u8], offsets: &'a [usize], present: &'a [u8]) -> StrandNames<'a> {
+    let names = Names {
         text,
         offsets,
         present,
-        &mut strand_glues[0..records * 5 + 5],
-        &mut scaffold[0..rows * cols],
-        bases,
-    )
+    };
+    StrandNames {
+        names,
+        numerals: &NUMERALS,
+    }
 }
 
-// Plans sheets over a grid of known size.
-fn plan_grid(
-    rt: &HostRuntime,
-    folder: &[u8],
-    wish: Wish,
-    strand_sheet: &[u8],
-    scaffold_sheet: &[u8],
-    keys: &[u8],
-    seed_sheet: &[u8],
-    temperature: &[u8],
-    lists: &[u8],
-    records: usize,
-    rows: usize,
-    cols: usize,
-) -> bool
-    requires { (records ≤ 63) × (rows ≤ 32) × (cols ≤ 32) }
-{
-    let bays = rows * cols;
+// Reads the tables of a system of known extent, and plans on.
+fn plan_extent(task: &Task<'_>, sheets: &Sheets<'_>, extent: &Extent) -> Result<(), Told> {
     let mut text = [0u8; 16385];
-    let mut offsets = [0usize; 1400];
-    let mut present = [0u8; 1400];
     let mut strand_glues = [0u32; 320];
     let mut scaffold = [0u32; 1024];
     let mut bases = [0usize; 254];
-    let count = match register_into(
-        strand_sheet,
-        scaffold_sheet,
-        records,
-        rows,
-        cols,
+    let glues = register(
+        task.folder,
+        sheets,
+        extent,
         &mut text,
-        &mut offsets,
-        &mut present,
         &mut strand_glues,
         &mut scaffold,
         &mut bases,
-    ) {
-        CountAnswer::Refused(r) => {
-            say_registering(folder, r, records * 5, cols);
-            return false;
-        }
-        CountAnswer::Count(n) => n,
-    };
-    let end = offsets[records * 5 + bays];
-    plan_keys(
-        rt,
-        folder,
-        wish,
-        strand_sheet,
-        keys,
-        seed_sheet,
-        temperature,
-        lists,
-        records,
-        rows,
-        cols,
-        count,
-        &mut text,
-        end,
-        text_fronts::front(&strand_glues, records * 5 + 5),
-        text_fronts::front(&scaffold, bays),
+    )?;
+    let mut delta_g = [0.0f64; 65025];
+    let mut entropy = [0.0f64; 65025];
+    fill_matrices(
+        task.folder,
+        sheets.keys,
+        &glues,
         &bases,
-    )
+        &mut text,
+        &mut delta_g,
+        &mut entropy,
+    )?;
+    let strands = extent.records + 1;
+    let mut name_text = [0u8; 16385];
+    let mut name_offsets = [0usize; 65];
+    let mut present = [0u8; 64];
+    let end = read_names(
+        task.folder,
+        sheets.strands,
+        extent.records,
+        &mut name_text,
+        &mut name_offsets,
+        &mut present,
+    )?;
+    let names = strand_names(
+        front(&name_text, end),
+        front(&name_offsets, strands + 1),
+        front(&present, strands),
+    );
+    let mut logs = [0.0f64; 64];
+    read_logs(task.folder, sheets.strands, extent.records, &mut logs)?;
+    let mut seeds = [0u32; 3072];
+    let seed_numbers = read_seeds(task.folder, sheets.seeds, extent, &names, &mut seeds)?;
+    let kelvin = read_temperature(task.folder, sheets.temperature)?;
+    let system = System {
+        sizes: Sizes {
+            rows: extent.rows,
+            cols: extent.cols,
+            strands,
+            glues: glues.count(),
+            kelvin,
+        },
+        strand_glues: front(&strand_glues, strands * 5),
+        scaffold: front(&scaffold, extent.bays()),
+        delta_g: front(&delta_g, glues.pairs()),
+        entropy: front(&entropy, glues.pairs()),
+        logs: front(&logs, strands),
+        seeds: front(&seeds, seed_numbers),
+    };
+    plan_lists(task, sheets.lists, &system, &names)
 }

@@ -1,11 +1,11 @@
 // How the planner is called, and what is said where it is called otherwise.
-use crate::messages::say;
-use crate::wish::asked_for;
-use crate::words::{WordFault, first_fault, folders, is_there, stands_twice};
-use text_fronts::front;
+use crate::bays::Bay;
+use crate::messages::{Told, say};
+use crate::wish::{Wish, bay_at, report_of, value_place};
+use crate::words::{Fault, WordFault, first_fault, is_there, stands_twice, word_at};
 
 // Writes how the planner is called.
-pub(crate) fn write_help() -> bool {
+pub(crate) fn write_help() -> Result<(), Told> {
     let written = io::write_all(
         1,
         b"planner [OPTIONS] FOLDER...\n\
@@ -27,89 +27,77 @@ seeds.csv         row, column, strand name; or the word none\n  \
 temperature.csv   kelvin\n  \
 constraints.csv   the register's sheet: a 0 alone keeps a bay empty\n",
     );
-    if !written {
-        say(b"--help", b"standard output cannot be written");
+    if written {
+        return Ok(());
     }
-    written
+    Err(say(b"--help", b"standard output cannot be written"))
 }
 
 // Says what is wrong with a word.
-fn say_word(rt: &HostRuntime, fault: WordFault) {
+fn say_word(rt: &HostRuntime, wrong: WordFault) -> Told {
     let mut room = io::buffer();
-    let n = text_host::arg(rt, fault.place, &mut room);
-    let word = front(&room, n);
-    if fault.fault == 1 {
-        return say(b"usage", b"a word is longer than 4095 bytes");
+    let word = word_at(rt, wrong.place, &mut room);
+    match wrong.fault {
+        Fault::TooLong => say(b"usage", b"a word is longer than 4095 bytes"),
+        Fault::NoOption => say(word, b"there is no such option; --help has them all"),
+        Fault::NoValue => say(
+            word,
+            b"this option takes a value behind it, as --why 2,3 or --svg layout.svg",
+        ),
     }
-    if fault.fault == 2 {
-        return say(word, b"there is no such option; --help has them all");
-    }
-    say(
-        word,
-        b"this option takes a value behind it, as --why 2,3 or --svg layout.svg",
-    );
 }
 
-// Whether options that go with one folder have one.
-fn fit_each_other(rt: &HostRuntime, count: usize) -> bool {
+// Tests that options which go with one folder have one.
+fn check_folders(rt: &HostRuntime, count: usize) -> Result<(), Told> {
     if count == 0 {
-        say(b"usage", b"name a folder of sheets; --help tells more");
-        return false;
+        return Err(say(b"usage", b"name a folder of sheets; --help tells more"));
     }
-    if count != 1 {
-        if is_there(rt, b"--sheet") {
-            say(b"--sheet", b"this option goes with one folder");
-            return false;
-        }
-        if is_there(rt, b"--svg") {
-            say(b"--svg", b"this option goes with one folder");
-            return false;
-        }
+    if count != 1 && is_there(rt, b"--sheet") {
+        return Err(say(b"--sheet", b"this option goes with one folder"));
     }
-    true
+    if count != 1 && is_there(rt, b"--svg") {
+        return Err(say(b"--svg", b"this option goes with one folder"));
+    }
+    Ok(())
 }
 
-// Whether the bay that is asked about is one.
-fn is_bay_named(rt: &HostRuntime, count: usize) -> bool {
-    let asked = asked_for(rt, count);
-    if !asked.why {
-        return true;
-    }
-    if asked.sheet {
-        say(
+// The bay that is asked about, if one is.
+fn asked_bay(rt: &HostRuntime) -> Result<Option<Bay>, Told> {
+    let Some(place) = value_place(rt, b"--why") else {
+        return Ok(None);
+    };
+    if is_there(rt, b"--sheet") {
+        return Err(say(
             b"--why",
             b"this option does not go with --sheet, which writes a sheet and nothing else",
-        );
-        return false;
+        ));
     }
-    if asked.row == 0 || asked.column == 0 {
-        say(
+    match bay_at(rt, place) {
+        Some(bay) => Ok(Some(bay)),
+        None => Err(say(
             b"--why",
             b"name a bay by its row and column from 1, as --why 2,3",
-        );
-        return false;
+        )),
     }
-    true
 }
 
-// Whether the words can be followed; where not, a sentence says so.
-pub(crate) fn is_usable(rt: &HostRuntime) -> bool {
-    let fault = first_fault(rt);
-    if fault.fault != 0 {
-        say_word(rt, fault);
-        return false;
+// What is asked of so many folders, unless the words cannot be followed.
+pub(crate) fn asked_for(rt: &HostRuntime, count: usize) -> Result<Wish, Told> {
+    if let Some(wrong) = first_fault(rt) {
+        return Err(say_word(rt, wrong));
     }
     if stands_twice(rt, b"--why") {
-        say(b"--why", b"ask about one bay at a time");
-        return false;
+        return Err(say(b"--why", b"ask about one bay at a time"));
     }
     if stands_twice(rt, b"--svg") {
-        say(b"--svg", b"name one file");
-        return false;
+        return Err(say(b"--svg", b"name one file"));
     }
-    let count = folders(rt);
-    if !fit_each_other(rt, count) {
-        return false;
-    }
-    is_bay_named(rt, count)
+    check_folders(rt, count)?;
+    Ok(Wish {
+        why: asked_bay(rt)?,
+        exact: is_there(rt, b"--exact"),
+        report: report_of(rt, count),
+        several: count != 1,
+        svg: value_place(rt, b"--svg"),
+    })
 }

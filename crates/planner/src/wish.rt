@@ -1,91 +1,65 @@
 // What the words ask for.
-use crate::messages::after;
-use crate::words::{is_there, place_of};
+use crate::bays::Bay;
+use crate::words::{is_there, place_of, word_at};
 use sheet_number_lists::plain_number;
-use text_fronts::front;
 
-// What is to be shown. `why` says that a bay is asked about, which has a row and a column from 1; `svg` is the place of the word that
-// names the drawing's file, 0 where none is wanted.
+// How a layout is reported.
+#[derive(Clone, Copy, PartialEq, Eq)]
+pub(crate) enum Report {
+    // A line.
+    Summary,
+    // A sheet of strand numbers.
+    Sheet,
+    // The grid of names, and the reason of each bay.
+    Whole,
+}
+
+// What is to be shown: `exact` asks for the bits of energies, `several` says that more than one folder is planned, `why` is the bay that is asked
+// about, and `svg` the place of the word that names the drawing's file.
 #[derive(Clone, Copy)]
 pub(crate) struct Wish {
     pub(crate) exact: bool,
-    pub(crate) sheet: bool,
-    pub(crate) whole: bool,
+    pub(crate) report: Report,
     pub(crate) several: bool,
-    pub(crate) why: bool,
-    pub(crate) row: usize,
-    pub(crate) column: usize,
-    pub(crate) svg: usize,
+    pub(crate) why: Option<Bay>,
+    pub(crate) svg: Option<usize>,
 }
 
-// The row and the column of a bay, from 1; 0 and 0 where a text names none.
-#[derive(Clone, Copy)]
-pub(crate) struct Bay {
-    pub(crate) row: usize,
-    pub(crate) column: usize,
-}
-
-// Where the comma of a text stands, its length where it has none.
-fn comma(text: &[u8]) -> usize {
-    let mut i = 0;
-    while i < text.len() {
-        if text[i] == b',' {
-            return i;
-        }
-        i += 1;
+// A row or column from 1 on.
+fn count_of(text: &[u8]) -> Option<usize> {
+    match plain_number(text)? {
+        0 => None,
+        number => Some(number as usize),
     }
-    i
-}
-
-// A row or column from 1 on, 0 where a text is none.
-fn count_of(text: &[u8]) -> usize {
-    let number = plain_number(text);
-    if number.sound {
-        return number.value as usize;
-    }
-    0
 }
 
 // The bay that `ROW,COLUMN` names.
-pub(crate) fn bay_of(text: &[u8]) -> Bay {
-    let at = comma(text);
-    if text.len() <= at {
-        return Bay { row: 0, column: 0 };
-    }
-    Bay {
-        row: count_of(front(text, at)),
-        column: count_of(&text[at + 1..]),
-    }
+fn bay_of(text: &[u8]) -> Option<Bay> {
+    let comma = text.iter().position(|byte| *byte == b',')?;
+    let row = count_of(&text[..comma])?;
+    let column = count_of(&text[comma + 1..])?;
+    Some(Bay { row, column })
 }
 
 // The bay that the word at a place names.
-fn bay_at(rt: &HostRuntime, place: usize) -> Bay {
+pub(crate) fn bay_at(rt: &HostRuntime, place: usize) -> Option<Bay> {
     let mut room = io::buffer();
-    let n = text_host::arg(rt, place, &mut room);
-    bay_of(front(&room, n))
+    bay_of(word_at(rt, place, &mut room))
 }
 
-// The place after that of an option, 0 where it is not there.
-fn value_place(rt: &HostRuntime, option: &[u8]) -> usize {
-    let at = place_of(rt, option, 1);
-    if at == 0 {
-        return 0;
-    }
-    after(at)
+// The place after that of an option.
+pub(crate) fn value_place(rt: &HostRuntime, option: &[u8]) -> Option<usize> {
+    let place = place_of(rt, option)?;
+    Some(place.saturating_add(1))
 }
 
-// What is asked, of one folder or of several: several have a line each unless the whole is asked for.
-pub(crate) fn asked_for(rt: &HostRuntime, folders: usize) -> Wish {
-    let why = value_place(rt, b"--why");
-    let bay = bay_at(rt, why);
-    Wish {
-        exact: is_there(rt, b"--exact"),
-        sheet: is_there(rt, b"--sheet"),
-        whole: folders == 1 || is_there(rt, b"--each") || why != 0,
-        several: folders != 1,
-        why: why != 0,
-        row: bay.row,
-        column: bay.column,
-        svg: value_place(rt, b"--svg"),
+// How the layout of one folder or of several is reported: several have a line each unless the whole is asked for.
+pub(crate) fn report_of(rt: &HostRuntime, folders: usize) -> Report {
+    if is_there(rt, b"--sheet") {
+        return Report::Sheet;
     }
+    if folders == 1 || is_there(rt, b"--each") || is_there(rt, b"--why") {
+        return Report::Whole;
+    }
+    Report::Summary
 }

@@ -1,44 +1,22 @@
 // The words of the command line: which are options, which belong to one, and which are folders. A word is told by its place among the arguments.
-ghost use Rattle.std.specs.Prelude.{◌≤◌};
-
-use crate::messages::after;
 use text_fronts::front;
 
-// Whether a text has another at its front.
-pub(crate) fn begins(text: &[u8], front: &[u8]) -> bool {
-    if text.len() < front.len() {
-        return false;
-    }
-    let mut i = 0;
-    while i < front.len() {
-        if text[i] != front[i] {
-            return false;
-        }
-        i += 1;
-    }
-    true
-}
-
-// Whether two texts are the same.
-pub(crate) fn same(a: &[u8], b: &[u8]) -> bool {
-    if a.len() != b.len() {
-        return false;
-    }
-    begins(a, b)
+// The word at a place, read into a lent room; nothing where none stands there or it is too long.
+pub(crate) fn word_at<'a>(rt: &HostRuntime, place: usize, room: &'a mut [u8]) -> &'a [u8] {
+    let n = text_host::arg(rt, place, room);
+    front(room, n)
 }
 
 // Whether a word stands at a place.
 fn is_word(rt: &HostRuntime, place: usize, word: &[u8]) -> bool {
     let mut room = io::buffer();
-    let n = text_host::arg(rt, place, &mut room);
-    same(front(&room, n), word)
+    word_at(rt, place, &mut room) == word
 }
 
 // Whether the word at a place begins with a dash.
 fn is_dashed(rt: &HostRuntime, place: usize) -> bool {
     let mut room = io::buffer();
-    let n = text_host::arg(rt, place, &mut room);
-    begins(front(&room, n), b"-")
+    word_at(rt, place, &mut room).starts_with(b"-")
 }
 
 // Whether the word at a place is as short as a path has to be.
@@ -47,30 +25,32 @@ fn is_short(rt: &HostRuntime, place: usize) -> bool {
     text_host::fits(rt, place, &mut room)
 }
 
-// The first place from one on that has a word, 0 where none has.
-pub(crate) fn place_of(rt: &HostRuntime, word: &[u8], from: usize) -> usize {
-    let count = text_host::arg_count(rt);
-    let mut i = from;
-    while i < count {
-        if is_word(rt, i, word) {
-            return i;
-        }
-        i += 1;
-    }
-    0
+// The first place from one on that has a word.
+fn place_from(rt: &HostRuntime, word: &[u8], from: usize) -> Option<usize> {
+    (from..text_host::arg_count(rt)).find(|place| is_word(rt, *place, word))
+}
+
+// The first place that has a word.
+pub(crate) fn place_of(rt: &HostRuntime, word: &[u8]) -> Option<usize> {
+    place_from(rt, word, 1)
 }
 
 // Whether a word is among the arguments.
 pub(crate) fn is_there(rt: &HostRuntime, word: &[u8]) -> bool {
-    place_of(rt, word, 1) != 0
+    place_of(rt, word).is_some()
+}
+
+// Whether a word stands twice.
+pub(crate) fn stands_twice(rt: &HostRuntime, word: &[u8]) -> bool {
+    match place_of(rt, word) {
+        Some(first) => place_from(rt, word, first.saturating_add(1)).is_some(),
+        None => false,
+    }
 }
 
 // Whether an option that takes a value stands at a place.
 fn takes_value(rt: &HostRuntime, place: usize) -> bool {
-    if is_word(rt, place, b"--why") {
-        return true;
-    }
-    is_word(rt, place, b"--svg")
+    is_word(rt, place, b"--why") || is_word(rt, place, b"--svg")
 }
 
 // Whether an option that stands alone is at a place.
@@ -85,97 +65,64 @@ fn stands_alone(rt: &HostRuntime, place: usize) -> bool {
 
 // Whether the word at a place is the value of the option before it.
 fn is_value(rt: &HostRuntime, place: usize) -> bool {
-    if place < 2 {
-        return false;
-    }
-    takes_value(rt, place - 1)
+    2 <= place && takes_value(rt, place - 1)
 }
 
 // Whether the word at a place is a folder.
 pub(crate) fn is_folder(rt: &HostRuntime, place: usize) -> bool {
-    if is_dashed(rt, place) {
-        return false;
-    }
-    !is_value(rt, place)
-}
-
-// How many folders the word at a place names, 0 or 1.
-pub(crate) fn folders_at(rt: &HostRuntime, place: usize) -> usize
-    ensures { result ≤ 1 }
-{
-    if is_folder(rt, place) { 1 } else { 0 }
+    !is_dashed(rt, place) && !is_value(rt, place)
 }
 
 // How many folders are named.
 pub(crate) fn folders(rt: &HostRuntime) -> usize {
-    let count = text_host::arg_count(rt);
-    let mut named = 0;
-    let mut i = 1;
-    while i < count {
-        named += folders_at(rt, i);
-        i += 1;
-    }
-    named
+    (1..text_host::arg_count(rt))
+        .filter(|place| is_folder(rt, *place))
+        .count()
 }
 
-// What is wrong with a word: 0 nothing, 1 too long, 2 no option, 3 an option that lacks its value.
-fn word_fault(rt: &HostRuntime, place: usize) -> u8 {
+// What is wrong with a word.
+#[derive(Clone, Copy, PartialEq, Eq)]
+pub(crate) enum Fault {
+    TooLong,
+    NoOption,
+    NoValue,
+}
+
+// What is wrong with the word at a place.
+fn word_fault(rt: &HostRuntime, place: usize) -> Option<Fault> {
     if !is_short(rt, place) {
-        return 1;
+        return Some(Fault::TooLong);
     }
     if takes_value(rt, place) {
-        return value_fault(rt, place);
+        return value_fault(rt, place.saturating_add(1));
     }
-    if !is_dashed(rt, place) {
-        return 0;
+    if is_dashed(rt, place) && !stands_alone(rt, place) {
+        return Some(Fault::NoOption);
     }
-    if stands_alone(rt, place) {
-        return 0;
-    }
-    2
+    None
 }
 
-// What is wrong with an option that takes the word after it.
-fn value_fault(rt: &HostRuntime, place: usize) -> u8 {
-    let value = after(place);
-    if text_host::arg_count(rt) <= value {
-        return 3;
+// What is wrong with the value of an option, which has to stand at a place.
+fn value_fault(rt: &HostRuntime, place: usize) -> Option<Fault> {
+    if text_host::arg_count(rt) <= place || is_dashed(rt, place) {
+        return Some(Fault::NoValue);
     }
-    if is_dashed(rt, value) {
-        return 3;
-    }
-    0
+    None
 }
 
-// A word with a fault.
-#[derive(Clone, Copy)]
+// A word with its fault.
+#[derive(Clone, Copy, PartialEq, Eq)]
 pub(crate) struct WordFault {
     pub(crate) place: usize,
-    pub(crate) fault: u8,
+    pub(crate) fault: Fault,
 }
 
 // The first word that has one.
-pub(crate) fn first_fault(rt: &HostRuntime) -> WordFault {
-    let count = text_host::arg_count(rt);
-    let mut i = 1;
-    while i < count {
-        let fault = word_fault(rt, i);
-        if fault != 0 {
-            return WordFault {
-                place: i,
-                fault: fault,
-            };
+pub(crate) fn first_fault(rt: &HostRuntime) -> Option<WordFault> {
+    for place in 1..text_host::arg_count(rt) {
+        if let Some(fault) = word_fault(rt, place) {
+            return Some(WordFault { place, fault });
         }
-        i += 1;
     }
-    WordFault { place: 0, fault: 0 }
-}
-
-// Whether an option stands twice.
-pub(crate) fn stands_twice(rt: &HostRuntime, word: &[u8]) -> bool {
-    let first = place_of(rt, word, 1);
-    if first == 0 {
-        return false;
-    }
-    place_of(rt, word, after(first)) != 0
+    None
 }
