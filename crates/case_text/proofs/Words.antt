@@ -1,10 +1,10 @@
 -- Laws of the search for a field among a line's words. Assumes nothing.
+use Rattle.std.proofs.Common.{Some, None}
 use Prim.Native.Nat.{ℕ, ◌+◌, ◌-◌, ◌≤◌, ◌<◌, zero-le}
 use mathlib.Core.Bool.{true, false}
 use mathlib.Core.List.{List, [], ◌∷◌}
 use mathlib.Core.Path.{◌≡◌, refl, sym, ap, ◌∙◌}
 use native.Mathlib.Omega.{arith}
-use borrow.Author.Tests.{lt-ltb, le-ltb}
 use lib.ListN.{length, take, drop}
 use Rattle.case_text.specs.Places.{place_of, parts}
 use Rattle.case_text.specs.Fields.{rest, words, has_key, any_field, first_field, FieldAt}
@@ -34,16 +34,11 @@ search_starts key line e p =
     }
 
 module _ (key line : List ℕ) (at : ℕ) (s : Search key line at) where
-  pub search_ends : length line ≤ at → FieldAt key line at
+  pub search_ends : length line ≤ at → FieldAt key line None
   unfolding words any_field first_field
   search_ends h =
       let none : words (drop at line) ≡ [] = none_after 32 line at h in
-      let past = le-ltb at (length line) h in
-      record {
-        within = s.within;
-        any = sym s.any ∙ ap (any_field key) none ∙ sym past;
-        first = sym s.first ∙ ap (first_field key) none ∙ rw past refl;
-      }
+      record { within = tt; any = sym s.any ∙ ap (any_field key) none; first = sym s.first ∙ ap (first_field key) none }
 
   module _ (e : ℕ) (h : at < length line) (p : e ≡ place_of 32 line (at + 1)) where
     abbrev word : List ℕ
@@ -53,14 +48,13 @@ module _ (key line : List ℕ) (at : ℕ) (s : Search key line at) where
     unfolding words
     next = s.spaced h ∙ rw p (part_at 32 line (at + 1) (omega arith))
 
-    pub search_found : has_key key word ≡ true → FieldAt key line at
+    pub search_found : has_key key word ≡ true → FieldAt key line (Some at)
     unfolding any_field first_field
     search_found k =
-        let here = lt-ltb at (length line) h in
         record {
-          within = s.within;
-          any = sym s.any ∙ rw (next, k, here) refl;
-          first = sym s.first ∙ rw (next, k, here, ← p) refl;
+          within = h;
+          any = sym s.any ∙ rw (next, k) refl;
+          first = sym s.first ∙ rw (next, k, ← p) refl;
         }
 
     pub search_next : has_key key word ≡ false → Search key line e

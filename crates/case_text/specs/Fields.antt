@@ -1,5 +1,5 @@
 -- What the contracts cite of a case line: its call's name and its fields. Assumes nothing.
-use Rattle.std.specs.Prelude.{ℕ, suc, ◌+◌, ◌-◌, ◌≤◌, Bool, true, false, cond, not, ◌&&◌, List, [], ◌∷◌, ◌≡◌, eqb, ltb, length, take, drop}
+use Rattle.std.specs.Prelude.{ℕ, suc, ◌+◌, ◌-◌, ◌<◌, Bool, true, false, cond, not, ◌&&◌, List, [], ◌∷◌, ◌≡◌, eqb, ltb, length, take, drop, Option, Some, None, IfSome, is_some}
 use Rattle.text_search.specs.Search.{index_of}
 use Rattle.text_entries.specs.Entries.{same_bytes}
 use Rattle.case_text.specs.Places.{place_of, parts}
@@ -41,8 +41,13 @@ unfoldable pub first_field : List ℕ → List (List ℕ) → List ℕ
 first_field key [] = []
 first_field key (w ∷ ws) = cond (has_key key w) (value_in w) (first_field key ws)
 
--- r is the place of the space before the line's first field with that key, or the line's length where there is none
-pub record FieldAt (key line : List ℕ) (r : ℕ) : Type 0 where
-  pub within : r ≤ length line
-  pub any : any_field key (words line) ≡ ltb r (length line)
-  pub first : first_field key (words line) ≡ cond (ltb r (length line)) (value_in (take (place_of 32 line (r + 1) - (r + 1)) (drop (r + 1) line))) []
+-- the value in the word after a place, no bytes where there is none
+abbrev pub value_after : List ℕ → Option ℕ → List ℕ
+value_after line (Some r) = value_in (take (place_of 32 line (r + 1) - (r + 1)) (drop (r + 1) line))
+value_after line None = []
+
+-- r is the place of the space before the line's first field with that key
+pub record FieldAt (key line : List ℕ) (r : Option ℕ) : Type 0 where
+  pub within : IfSome r (λ at. at < length line)
+  pub any : any_field key (words line) ≡ is_some r
+  pub first : first_field key (words line) ≡ value_after line r

@@ -16,7 +16,7 @@ pub fn same(a: &[u8], b: &[u8]) -> bool
 pub fn is_case(line: &[u8]) -> bool
     ensures { result ≡ is_case line.now }
 {
-    if line.len() == 0 {
+    if line.is_empty() {
         return false;
     }
     line[0] != b'#'
@@ -34,24 +34,23 @@ pub fn call_name<'a>(line: &'a [u8]) -> &'a [u8]
 pub fn has_field(line: &[u8], key: &[u8]) -> bool
     ensures { result ≡ any_field key.now (words line.now) }
 {
-    find_field(line, key) < line.len()
+    find_field(line, key).is_some()
 }
 
 // The value of the line's first field with that key, or no bytes where there is none.
 pub fn field<'a>(line: &'a [u8], key: &[u8]) -> &'a [u8]
     ensures { result.now ≡ first_field key.now (words line.now) }
 {
-    let at = find_field(line, key);
-    if line.len() <= at {
+    let Some(at) = find_field(line, key) else {
         return &line[..0];
-    }
+    };
     let start = at + 1;
     let end = place_of(line, start, b' ');
     value_in(&line[start..end])
 }
 
-// The place of the space before the line's first field with that key, or the line's length.
-fn find_field(line: &[u8], key: &[u8]) -> usize
+// The place of the space before the line's first field with that key.
+fn find_field(line: &[u8], key: &[u8]) -> Option<usize>
     ensures { FieldAt key.now line.now result }
 {
     let mut at = place_of(line, 0, b' ');
@@ -59,11 +58,11 @@ fn find_field(line: &[u8], key: &[u8]) -> usize
         let start = at + 1;
         let end = place_of(line, start, b' ');
         if has_key(&line[start..end], key) {
-            return at;
+            return Some(at);
         }
         at = end;
     }
-    at
+    None
 }
 
 // Whether a word is a field with that key: the key, `=`, and a value.
