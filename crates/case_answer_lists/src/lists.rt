@@ -27,12 +27,6 @@ pub fn put_next_float(out: &mut [u8], at: usize, i: usize, x: f64) -> usize
     put_float(out, comma, x)
 }
 
-fn wide(n: u32) -> u64
-    ensures { result ≡ n }
-{
-    n as u64
-}
-
 // A word, and the list of a table's numbers.
 pub fn put_small_numbers(out: &mut [u8], at: usize, word: &[u8], table: &[u32]) -> usize
     ensures { Put out.old at (word.now ++ listed number_text 0 table.now) result out.new }
@@ -40,7 +34,7 @@ pub fn put_small_numbers(out: &mut [u8], at: usize, word: &[u8], table: &[u32]) 
     let mut next = put_text(out, at, word);
     let mut i = 0;
     while i < table.len() {
-        next = put_next_number(out, next, i, wide(table[i]));
+        next = put_next_number(out, next, i, table[i] as u64);
         i += 1;
     }
     next

@@ -1,9 +1,4 @@
 -- `lists::put_small_numbers` meets its contract: the invariant is that what is left of the list ends the line. Assumes nothing.
-use Prim.Native.Nat.{ℕ}
-use mathlib.Core.Path.{ap}
-use Rattle.text_put.specs.Puts.{number_text}
-use Rattle.case_answer_lists.specs.Lists.{item}
-use Rattle.text_put.proofs.Putting.{put_as}
 use Rattle.case_answer_lists.proofs.Listing.{listing_starts, listing_goes_on, listing_ends}
 use borrow.Author.Rules.{rules}
 use Rattle.case_answer_lists.proofs.lists.put_small_numbers.Goals as goal
@@ -12,7 +7,7 @@ pub loop-i-init : goal.loop-i-init
 loop-i-init c = listing_starts c.put_text-next.ensures
 
 pub loop-i-preserved : goal.loop-i-preserved
-loop-i-preserved c = listing_goes_on c.loop-i.invariant c.loop-i-test.true 0 (put_as (ap (λ (k : ℕ). item c.loop-i.i (number_text k)) c.wide.ensures) c.put_next_number-next.ensures)
+loop-i-preserved c = listing_goes_on c.loop-i.invariant c.loop-i-test.true 0 c.put_next_number-next.ensures
 
 pub shape_of-out : goal.shape_of-out
 shape_of-out c = let l = c.loop-i.invariant.ending.long in search rules
