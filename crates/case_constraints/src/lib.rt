@@ -1,13 +1,12 @@
 // The constraints of a system: where each bay's list ends, and the strands of all lists.
 #![tactic(auto)]
 
-ghost use Rattle.std.specs.Prelude.{◌≤◌, ◌≡◌, length};
+ghost use Rattle.std.specs.Prelude.{◌≡◌, length, IfSome};
 ghost use Rattle.bay_lists.specs.Lists.{constraints_of};
 ghost use Rattle.case_constraints.specs.Within.{ConstraintsWithin, constraints_in};
 
 use bay_lists::Constraints;
-use bay_system::Sizes;
-use case_field_reads::{at_most, list_field};
+use case_field_reads::list_field;
 use case_text::{front, has_field};
 
 // How many items each of the two lists has.
@@ -17,10 +16,9 @@ pub struct ListCounts {
     pub tiles: usize,
 }
 
-// Whether the constraints could be read, and how far the tables of the lists are filled, where there are lists.
+// How far the tables of the lists are filled, where there are lists.
 #[derive(Clone, Copy)]
 pub struct ConstraintsRead {
-    pub readable: bool,
     pub lists: Option<ListCounts>,
 }
 
@@ -39,30 +37,19 @@ impl ConstraintsRead {
     }
 }
 
-// Reads the constraints of a case; it has some exactly where it has the field `offsets`.
-pub fn read_constraints(line: &[u8], offsets: &mut [usize], tiles: &mut [u32]) -> ConstraintsRead
-    ensures { ConstraintsWithin result line.now (length offsets.old) (length tiles.old) }
+// Reads the constraints of a case, if they can be read; it has some exactly where it has the field `offsets`.
+pub fn read_constraints(
+    line: &[u8],
+    offsets: &mut [usize],
+    tiles: &mut [u32],
+) -> Option<ConstraintsRead>
+    ensures { IfSome result (λ read. ConstraintsWithin read line.now (length offsets.old) (length tiles.old)) }
 {
     if !has_field(line, b"offsets") {
-        return ConstraintsRead {
-            readable: true,
-            lists: None,
-        };
+        return Some(ConstraintsRead { lists: None });
     }
-    let ends = list_field(line, b"offsets", offsets);
-    let listed = list_field(line, b"tiles", tiles);
-    ConstraintsRead {
-        readable: ends.is_some() && listed.is_some(),
-        lists: Some(ListCounts {
-            offsets: ends.unwrap_or(0),
-            tiles: listed.unwrap_or(0),
-        }),
-    }
-}
-
-// The bays of a grid; a side past the limit of 32 is taken for 33, which is refused whatever is lent.
-pub fn bays(z: Sizes) -> usize
-    ensures { result ≤ 1089 }
-{
-    at_most(z.rows, 33) * at_most(z.cols, 33)
+    let offsets = list_field(line, b"offsets", offsets)?;
+    let tiles = list_field(line, b"tiles", tiles)?;
+    let lists = Some(ListCounts { offsets, tiles });
+    Some(ConstraintsRead { lists })
 }

@@ -15,41 +15,16 @@ fn put_cell(out: &mut [u8], at: usize, i: usize, j: usize, dg: f64, ds: f64) -> 
     put_floats(out, cell, b"=", dg, b",", ds)
 }
 
-// The row after column j of row i.
-fn next_row(i: usize, j: usize, side: usize) -> usize {
-    if next_column(j, side) != 0 {
-        return i;
-    }
-    if i < side { i + 1 } else { i }
-}
-
-// The column after column j.
-fn next_column(j: usize, side: usize) -> usize {
-    if j < side {
-        let next = j + 1;
-        if next < side {
-            return next;
-        }
-    }
-    0
-}
-
-// Each cell that holds something, row by row.
+// Each cell that holds something, row by row; a matrix of side 0 has none.
 pub(crate) fn put_matrices(out: &mut [u8], side: usize, delta_g: &[f64], entropy: &[f64]) -> usize
     ensures { result ≤ length out.old }
 {
     let mut next = put_text(out, 0, b"matrices");
-    let mut i = 0;
-    let mut j = 0;
-    let mut k = 0;
-    while k < delta_g.len() {
-        if entropy.len() <= k {
-            return next;
-        }
-        next = put_cell(out, next, i, j, delta_g[k], entropy[k]);
-        i = next_row(i, j, side);
-        j = next_column(j, side);
-        k += 1;
+    if side == 0 {
+        return next;
+    }
+    for (k, (dg, ds)) in delta_g.iter().zip(entropy.iter()).enumerate() {
+        next = put_cell(out, next, k / side, k % side, *dg, *ds);
     }
     next
 }

@@ -1,12 +1,10 @@
 // The call `register`: names and sizes are read from their line, tables of sevens are lent, and what became of them is told.
 use case_answer_lines::{put_value, refused_with_tables, unreadable};
 use case_answer_lists::{put_numbers, put_small_numbers};
-use case_field_reads::{at_most, is_number, number_in};
+use case_field_reads::at_most;
 use case_fields::number_field;
 use case_lent::{all_numbers, all_small_numbers, put_rest};
-use case_parts::{
-    bays_of, length_of, list_between, part_from, read_grid, text_between, three_read,
-};
+use case_parts::{bays_of, length_of, list_between, part_from, read_grid, text_between};
 use case_text::front;
 use sdc2d::register;
 use text_entries::Names;
@@ -31,19 +29,19 @@ fn all_fit(glues: usize, scaffold: usize, bases: usize) -> bool {
 // The numbers, if all could be read and there is room. A count of strands past the limit is taken for 66, which is refused
 // whatever is lent.
 fn read_numbers(line: &[u8]) -> Option<Asked> {
-    let grid = read_grid(line);
-    let strands = number_field(line, b"strands");
-    let most = at_most(number_in(strands), 66);
+    let grid = read_grid(line)?;
+    let strands = number_field(line, b"strands")? as usize;
+    let most = at_most(strands, 66);
     let glues = length_of(line, b"glues_length", most * 5);
     let scaffold = length_of(line, b"scaffold_length", bays_of(grid.rows, grid.cols));
     let bases = length_of(line, b"bases_length", BASE_NUMBERS);
-    if !(grid.readable && is_number(strands) && all_fit(glues, scaffold, bases)) {
+    if !all_fit(glues, scaffold, bases) {
         return None;
     }
     Some(Asked {
         rows: grid.rows,
         cols: grid.cols,
-        strands: number_in(strands),
+        strands,
         glues,
         scaffold,
         bases,
@@ -125,13 +123,16 @@ pub(crate) fn answer_register(line: &[u8], out: &mut [u8]) -> usize {
     let present = list_between(line, b"present", &mut bytes, 16400, 17800);
     let mut numbers = [0usize; 1400];
     let offsets = list_between(line, b"offsets", &mut numbers, 0, 1400);
+    let (Some(text), Some(present), Some(offsets)) = (text, present, offsets) else {
+        return unreadable(out);
+    };
     let names = Names {
         text: part_from(&bytes, 0, text),
         offsets: front(&numbers, offsets),
         present: part_from(&bytes, 16400, present),
     };
     match read_numbers(line) {
-        Some(asked) if three_read(text, present, offsets) => register_lent(asked, &names, out),
-        _ => unreadable(out),
+        Some(asked) => register_lent(asked, &names, out),
+        None => unreadable(out),
     }
 }

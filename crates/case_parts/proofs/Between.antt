@@ -10,7 +10,7 @@ use lib.ListN.{length, take, drop, length-drop, drop_of_length-le}
 use lib.Seq.{drop-drop, take-length}
 use Rattle.std.proofs.Common.{Option}
 use Rattle.case_fields.specs.Values.{field_count, field_front}
-use Rattle.case_parts.specs.Parts.{count_of, part_end, part_start, between, count_between, front_between}
+use Rattle.case_parts.specs.Parts.{part_end, part_start, between, count_between, front_between}
 
 module _ {A : Type 0} (ok : List ℕ → Bool) (value : List ℕ → A) (cut : List ℕ → List (List ℕ)) (key line : List ℕ) (from to : ℕ) (old : List A) where
   after_part : {end start : ℕ} → end ≡ part_end to old → start ≡ part_start from to old → drop (end - start) (drop start old) ≡ drop (part_end to old) old
@@ -19,16 +19,16 @@ module _ {A : Type 0} (ok : List ℕ → Bool) (value : List ℕ → A) (cut : L
       drop-drop (end - start) start old ∙ ap (λ (n : ℕ). drop n old) (whole ∙ e)
 
   -- what the reader of the part answers and leaves, put back into the table
-  pub as_between : {end start : ℕ} {count : Option ℕ} {r : ℕ} {new : List A} → end ≡ min to (length old) → start ≡ min from end
+  pub as_between : {end start : ℕ} {count : Option ℕ} {new : List A} → end ≡ min to (length old) → start ≡ min from end
       → let part = take (end - start) (drop start old) in
-      (count ≡ field_count ok cut key line (length part)) × (new ≡ field_front ok value cut key line part) → r ≡ count_of count
-      → (r ≡ count_between ok cut key line from to old) × (take start old ++ (new ++ drop (end - start) (drop start old)) ≡ front_between ok value cut key line from to old)
-  as_between {end} {start} {count} {r} {new} e s read n =
+      (count ≡ field_count ok cut key line (length part)) × (new ≡ field_front ok value cut key line part)
+      → (count ≡ count_between ok cut key line from to old) × (take start old ++ (new ++ drop (end - start) (drop start old)) ≡ front_between ok value cut key line from to old)
+  as_between {end} {start} {count} {new} e s read =
       let first : start ≡ part_start from to old = s ∙ ap (min from) e in
       let same : take (end - start) (drop start old) ≡ between from to old = rw (first, e) in
       let counts : count ≡ field_count ok cut key line (length (between from to old)) = read.0 ∙ ap (λ (part : List A). field_count ok cut key line (length part)) same in
       let fills : new ≡ field_front ok value cut key line (between from to old) = read.1 ∙ ap (field_front ok value cut key line) same in
-      (n ∙ ap count_of counts, rw (after_part e first, fills, first))
+      (counts, rw (after_part e first, fills, first))
 
 -- what stands from a place on, and nothing where the place lies past the end
 pub as_from : {A : Type 0} (table : List A) (from count : ℕ) {at : ℕ} → at ≡ min from (length table)

@@ -1,19 +1,11 @@
 -- What the contracts cite of fields that are read into parts of a table, and of how much was read. Assumes nothing.
 use Rattle.std.specs.Option.{unwrap_or}
-use Rattle.std.specs.Prelude.{ℕ, ◌-◌, min, Bool, List, ◌++◌, ltb, length, take, drop, Option}
+use Rattle.std.specs.Prelude.{ℕ, ◌-◌, min, Bool, List, ◌++◌, length, take, drop, Option}
 use Rattle.case_fields.specs.Values.{field_count, field_front}
 
--- the count of a field that could not be read: more than any table here has places
+-- a length that could not be read: more than any table here has places
 abbrev pub unread : ℕ
 unread = 1048576
-
--- how many items were read of a field
-abbrev pub count_of : Option ℕ → ℕ
-count_of count = unwrap_or count unread
-
--- whether a field was read, by its count
-abbrev pub was_read : ℕ → Bool
-was_read count = ltb count unread
 
 -- how long a case says that a lent table is, the right length where it does not say, and `unread` where that cannot be read
 abbrev pub length_for : Option ℕ → ℕ
@@ -31,8 +23,8 @@ abbrev pub between : {A : Type 0} → (from to : ℕ) → List A → List A
 between from to table = take (part_end to table - part_start from to table) (drop (part_start from to table) table)
 
 -- how many items a field has that is read into what stands between two places
-abbrev pub count_between : {A : Type 0} → (List ℕ → Bool) → (List ℕ → List (List ℕ)) → (key line : List ℕ) → (from to : ℕ) → List A → ℕ
-count_between ok cut key line from to table = count_of (field_count ok cut key line (length (between from to table)))
+abbrev pub count_between : {A : Type 0} → (List ℕ → Bool) → (List ℕ → List (List ℕ)) → (key line : List ℕ) → (from to : ℕ) → List A → Option ℕ
+count_between ok cut key line from to table = field_count ok cut key line (length (between from to table))
 
 -- the table afterwards: what stands between the places is written from its front, all else is as it was
 abbrev pub front_between : {A : Type 0} → (List ℕ → Bool) → (List ℕ → A) → (List ℕ → List (List ℕ)) → (key line : List ℕ) → (from to : ℕ) → List A → List A

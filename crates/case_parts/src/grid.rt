@@ -2,7 +2,6 @@
 ghost use Rattle.std.specs.Prelude.{◌≡◌, ◌≤◌};
 ghost use Rattle.case_parts.specs.Grid.{grid_read, bays_of};
 
-use case_field_reads::{is_number, number_in};
 use case_fields::number_field;
 use text_fronts::least;
 use units::MOST_SIDE;
@@ -10,24 +9,20 @@ use units::MOST_SIDE;
 // The side that a longer one is taken for: past the limit, so that it is refused whatever is lent.
 const PAST_SIDE: usize = MOST_SIDE + 1;
 
-// Whether both could be read, and what they are.
+// The sides of a grid.
 #[derive(Clone, Copy)]
-pub struct GridRead {
-    pub readable: bool,
+pub struct Grid {
     pub rows: usize,
     pub cols: usize,
 }
 
-pub fn read_grid(line: &[u8]) -> GridRead
+// The rows and columns of a case, if both could be read.
+pub fn read_grid(line: &[u8]) -> Option<Grid>
     ensures { result ≡ grid_read line.now }
 {
-    let rows = number_field(line, b"rows");
-    let cols = number_field(line, b"cols");
-    GridRead {
-        readable: is_number(rows) & is_number(cols),
-        rows: number_in(rows),
-        cols: number_in(cols),
-    }
+    let rows = number_field(line, b"rows")? as usize;
+    let cols = number_field(line, b"cols")? as usize;
+    Some(Grid { rows, cols })
 }
 
 // The bays of a grid.

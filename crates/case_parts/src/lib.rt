@@ -3,50 +3,37 @@
 
 mod grid;
 
-ghost use Rattle.std.specs.Prelude.{◌&&◌, ◌≡◌, take, drop};
+ghost use Rattle.std.specs.Prelude.{◌≡◌, take, drop};
 ghost use Rattle.case_lists.specs.Lists.{items};
 ghost use Rattle.case_lists.specs.Text.{signs, is_sign, byte_of};
 ghost use Rattle.case_fields.specs.Values.{number_or};
-ghost use Rattle.case_parts.specs.Parts.{count_of, was_read, length_for, count_between, front_between};
+ghost use Rattle.case_parts.specs.Parts.{length_for, count_between, front_between};
 
 use case_fields::{list_field, number_or, text_field};
 use case_lists::Item;
 use case_text::front;
-pub use grid::{GridRead, bays_of, read_grid};
+pub use grid::{Grid, bays_of, read_grid};
 use text_fronts::least;
 
-// The count of a field that could not be read: more than any table here has places.
+// A length that could not be read: more than any table here has places. It is no Option, since each caller
+// compares a length with the room that it has, which this one fails too.
 pub const UNREAD: usize = 1048576;
 
-// How many items were read of a field.
-pub fn counted(count: Option<usize>) -> usize
-    ensures { result ≡ count_of count }
-{
-    count.unwrap_or(UNREAD)
-}
-
-// Whether a field was read, by its count.
-pub fn is_read(count: usize) -> bool
-    ensures { result ≡ was_read count }
-{
-    count < UNREAD
-}
-
-// Whether each of three fields was read.
-pub fn three_read(a: usize, b: usize, c: usize) -> bool
-    ensures { result ≡ (was_read a && was_read b && was_read c) }
-{
-    is_read(a) & is_read(b) & is_read(c)
-}
-
-// Reads a text to the places of a table between two.
-pub fn text_between(line: &[u8], key: &[u8], room: &mut [u8], from: usize, to: usize) -> usize
+// Reads a text to the places of a table between two, and answers how many bytes were read of it. A function of its own beside
+// `list_between`: the signs of a text have no commas between them, so they are no `Item`s.
+pub fn text_between(
+    line: &[u8],
+    key: &[u8],
+    room: &mut [u8],
+    from: usize,
+    to: usize,
+) -> Option<usize>
     ensures count { result ≡ count_between is_sign signs key.now line.now from to room.old }
     ensures table { room.new ≡ front_between is_sign byte_of signs key.now line.now from to room.old }
 {
     let end = least(to, room.len());
     let start = least(from, end);
-    counted(text_field(line, key, &mut room[start..end]))
+    text_field(line, key, &mut room[start..end])
 }
 
 // Reads a list likewise.
@@ -56,13 +43,13 @@ pub fn list_between<T: Item>(
     room: &mut [T],
     from: usize,
     to: usize,
-) -> usize
+) -> Option<usize>
     ensures count { result ≡ count_between T.is_item items key.now line.now from to room.old }
     ensures table { room.new ≡ front_between T.is_item T.value_in items key.now line.now from to room.old }
 {
     let end = least(to, room.len());
     let start = least(from, end);
-    counted(list_field(line, key, &mut room[start..end]))
+    list_field(line, key, &mut room[start..end])
 }
 
 // So many places of a table from one on, as far as it goes.

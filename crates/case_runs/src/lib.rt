@@ -37,75 +37,41 @@ fn need_of(system: &System<'_>, constraints: &Constraints<'_>, length: usize) ->
     ))
 }
 
-// The line of a run that needs so many rows, where all of the case could be read.
-fn run_told(
-    system: &System<'_>,
-    constraints: &Constraints<'_>,
-    readable: bool,
-    need: usize,
-    layout: &mut [u32],
-    energies: &mut [f64],
-    leaving: &mut [u8],
-    out: &mut [u8],
-) -> usize {
-    if !readable {
-        return unreadable(out);
-    }
-    let answer = mfe_configuration(system, constraints, layout, energies, leaving);
-    put_run(out, answer, need, layout, energies, leaving)
-}
-
 // Asks for the need, and then for the run with as much of the ledger as the case says.
 fn ledger_lent(
     line: &[u8],
     system: &System<'_>,
     constraints: &Constraints<'_>,
-    readable: bool,
     layout: &mut [u32],
-    energies: &mut [f64],
-    leaving: &mut [u8],
     out: &mut [u8],
 ) -> usize {
     let need = need_of(system, constraints, layout.len());
     let rows = length_of(line, b"energies_length", need);
     let notes = length_of(line, b"leaving_length", need);
-    let r = at_most(rows, energies.len());
-    let n = at_most(notes, leaving.len());
-    run_told(
-        system,
-        constraints,
-        readable && rows <= 32768 && notes <= 32768,
-        need,
-        layout,
-        &mut energies[..r],
-        &mut leaving[..n],
-        out,
-    )
+    if 32768 < rows || 32768 < notes {
+        return unreadable(out);
+    }
+    let mut energies = [7.0; 32768];
+    let mut leaving = [7u8; 32768];
+    let energies_lent = &mut energies[..rows.min(32768)];
+    let leaving_lent = &mut leaving[..notes.min(32768)];
+    let answer = mfe_configuration(system, constraints, layout, energies_lent, leaving_lent);
+    put_run(out, answer, need, layout, energies_lent, leaving_lent)
 }
 
 // The answer to a case on a system.
 pub fn answer_run(line: &[u8], system: &System<'_>, out: &mut [u8]) -> usize {
     let mut offsets = [0usize; 1025];
     let mut tiles = [0u32; 2977];
-    let read = read_constraints(line, &mut offsets, &mut tiles);
+    let Some(read) = read_constraints(line, &mut offsets, &mut tiles) else {
+        return unreadable(out);
+    };
     let constraints = read.lent(&offsets, &tiles);
-    let length = length_of(
-        line,
-        b"layout_length",
-        bays_of(system.sizes.rows, system.sizes.cols),
-    );
-    let lent = at_most(length, 1089);
+    let bays = bays_of(system.sizes.rows, system.sizes.cols);
+    let length = length_of(line, b"layout_length", bays);
+    if 1089 < length {
+        return unreadable(out);
+    }
     let mut layout = [7u32; 1089];
-    let mut energies = [7.0; 32768];
-    let mut leaving = [7u8; 32768];
-    ledger_lent(
-        line,
-        system,
-        &constraints,
-        read.readable && length <= 1089,
-        &mut layout[..lent],
-        &mut energies,
-        &mut leaving,
-        out,
-    )
+    ledger_lent(line, system, &constraints, &mut layout[..length], out)
 }

@@ -11,10 +11,9 @@ use bay_lists::Constraints;
 use bay_system::System;
 use case_answer_lines::{refused_with_tables, unreadable};
 use case_answer_lists::put_long_numbers;
-use case_field_reads::at_most;
 use case_lent::all_long_numbers;
 use case_parts::{bays_of, length_of};
-use case_systems::{ConstraintsRead, read_constraints};
+use case_systems::read_constraints;
 use sdc2d_thermo::allowed_tiles;
 use units::Refusal;
 
@@ -28,27 +27,18 @@ fn put_sets(out: &mut [u8], answer: Result<(), Refusal>, kept: bool, sets: &[u64
     }
 }
 
-// Asks with the very table that is lent, where the constraints could be read and there is room for the table.
+// Asks with the very table that is lent.
 fn sets_asked(
-    readable: bool,
     system: &System<'_>,
     constraints: &Constraints<'_>,
     sets: &mut [u64],
     out: &mut [u8],
 ) -> usize
     ensures { let c = constraints_of constraints.now in
-        Put out.old 0 (asked_text readable (system_of system.now) c sets.old) result out.new }
+        Put out.old 0 (asked_text (system_of system.now) c sets.old) result out.new }
 {
-    if !readable {
-        return unreadable(out);
-    }
     let answer = allowed_tiles(system, constraints, sets);
     put_sets(out, answer, all_long_numbers(sets, 0, 7), sets)
-}
-
-// Whether the constraints could be read, and there is room for a table of that length.
-fn fits(lists: ConstraintsRead, length: usize) -> bool {
-    lists.readable && length <= 1089
 }
 
 // The answer to a case on a system.
@@ -57,19 +47,19 @@ pub fn answer_sets(line: &[u8], system: &System<'_>, out: &mut [u8]) -> usize
 {
     let mut offsets = [0usize; 1025];
     let mut tiles = [0u32; 2977];
-    let lists = read_constraints(line, &mut offsets, &mut tiles);
-    let length = length_of(
-        line,
-        b"sets_length",
-        bays_of(system.sizes.rows, system.sizes.cols),
-    );
-    let lent = at_most(length, 1089);
+    let Some(lists) = read_constraints(line, &mut offsets, &mut tiles) else {
+        return unreadable(out);
+    };
+    let bays = bays_of(system.sizes.rows, system.sizes.cols);
+    let length = length_of(line, b"sets_length", bays);
+    if 1089 < length {
+        return unreadable(out);
+    }
     let mut sets = [7u64; 1089];
     sets_asked(
-        fits(lists, length),
         system,
         &lists.lent(&offsets, &tiles),
-        &mut sets[0..lent],
+        &mut sets[..length],
         out,
     )
 }

@@ -13,7 +13,8 @@ ghost use Rattle.case_sheets.specs.Calls.{knows};
 use case_replies::Reply;
 use case_text::{call_name, same};
 
-// The answer to a line, put into `out` from its start.
+// The answer to a line, put into `out` from its start. Other crates of cases have an `answer` of this shape: the names of the calls, which are
+// all it says, differ, so one that is given them is no plainer.
 pub fn answer(line: &[u8], out: &mut [u8]) -> Reply
     ensures { is_known result ≡ knows (call_name line.now) }
 {

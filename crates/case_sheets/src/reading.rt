@@ -16,10 +16,10 @@ struct Asked {
 }
 
 fn read_numbers(line: &[u8]) -> Option<Asked> {
-    let grid = read_grid(line);
+    let grid = read_grid(line)?;
     let offsets = length_of(line, b"offsets_length", bays_of(grid.rows, grid.cols) + 1);
     let tiles = length_of(line, b"tiles_length", 65600);
-    if !grid.readable || 1100 < offsets || 65600 < tiles {
+    if 1100 < offsets || 65600 < tiles {
         return None;
     }
     Some(Asked {

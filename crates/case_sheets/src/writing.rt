@@ -15,9 +15,9 @@ struct Asked {
 }
 
 fn read_numbers(line: &[u8]) -> Option<Asked> {
-    let grid = read_grid(line);
+    let grid = read_grid(line)?;
     let text = length_of(line, b"text_length", 65536);
-    if !grid.readable || 65536 < text {
+    if 65536 < text {
         return None;
     }
     Some(Asked {

@@ -1,22 +1,21 @@
 // The names of a case's strands, read into two tables that other fields share: one of bytes, one of numbers.
 use case_field_reads::at_most;
 use case_lists::text_into;
-use case_parts::{counted, is_read, list_between, part_from, text_between, three_read};
+use case_parts::{list_between, part_from, text_between};
 use case_text::{field, has_field};
 use name_strands::{NUMERALS, StrandNames};
 use text_entries::Names;
 
-// Whether the names could be read, and how long each part is.
+// How long each part of the names is.
 #[derive(Clone, Copy)]
-pub(crate) struct NamesRead {
-    pub(crate) readable: bool,
+pub(crate) struct NameLengths {
     pub(crate) text: usize,
     pub(crate) present: usize,
     pub(crate) numerals: usize,
     pub(crate) offsets: usize,
 }
 
-impl NamesRead {
+impl NameLengths {
     // The names in the two tables.
     pub(crate) fn names<'a>(&self, bytes: &'a [u8], numbers: &'a [usize]) -> StrandNames<'a> {
         StrandNames {
@@ -31,36 +30,34 @@ impl NamesRead {
 }
 
 // The numerals of a case; the right ones where it has none.
-fn numerals_into(line: &[u8], room: &mut [u8]) -> usize {
+fn numerals_into(line: &[u8], room: &mut [u8]) -> Option<usize> {
     if has_field(line, b"numerals") {
-        return counted(text_into(field(line, b"numerals"), room));
+        return text_into(field(line, b"numerals"), room);
     }
-    counted(text_into(&NUMERALS, room))
+    text_into(&NUMERALS, room)
 }
 
 // The same, to the places of a table between two.
-fn numerals_between(line: &[u8], room: &mut [u8], from: usize, to: usize) -> usize {
+fn numerals_between(line: &[u8], room: &mut [u8], from: usize, to: usize) -> Option<usize> {
     let end = at_most(to, room.len());
     let start = at_most(from, end);
     numerals_into(line, &mut room[start..end])
 }
 
-// Whether each of four parts was read.
-fn four_read(a: usize, b: usize, c: usize, d: usize) -> bool {
-    three_read(a, b, c) && is_read(d)
-}
-
 // The names from 0 on, their presence from 32800, the numerals from 32880; the offsets from 0.
-pub(crate) fn read_names(line: &[u8], bytes: &mut [u8], numbers: &mut [usize]) -> NamesRead {
-    let text = text_between(line, b"text", bytes, 0, 16400);
-    let present = list_between(line, b"present", bytes, 32800, 32880);
-    let numerals = numerals_between(line, bytes, 32880, 33136);
-    let offsets = list_between(line, b"offsets", numbers, 0, 80);
-    NamesRead {
-        readable: four_read(text, present, numerals, offsets),
+pub(crate) fn read_names(
+    line: &[u8],
+    bytes: &mut [u8],
+    numbers: &mut [usize],
+) -> Option<NameLengths> {
+    let text = text_between(line, b"text", bytes, 0, 16400)?;
+    let present = list_between(line, b"present", bytes, 32800, 32880)?;
+    let numerals = numerals_between(line, bytes, 32880, 33136)?;
+    let offsets = list_between(line, b"offsets", numbers, 0, 80)?;
+    Some(NameLengths {
         text,
         present,
         numerals,
         offsets,
-    }
+    })
 }

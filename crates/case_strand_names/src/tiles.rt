@@ -1,10 +1,10 @@
 // The call `tile_name`: the name that is shown for a tile.
 ghost use Rattle.std.specs.Prelude.{◌≤◌, length};
 
-use crate::names::{NamesRead, read_names};
+use crate::names::read_names;
 use case_answer_lines::{put_value, unreadable};
 use case_answer_lists::put_coded;
-use case_field_reads::{at_most, is_number, number_in};
+use case_field_reads::at_most;
 use case_fields::number_field;
 use sdc2d::{StrandNames, tile_name, tile_name_refusal};
 
@@ -18,10 +18,9 @@ fn put_tile(strands: usize, names: &StrandNames<'_>, tile: u32, out: &mut [u8]) 
     }
 }
 
-// The numbers of a case, and whether both could be read.
+// The numbers of a case.
 #[derive(Clone, Copy)]
 struct Asked {
-    readable: bool,
     strands: usize,
     tile: u32,
 }
@@ -31,30 +30,10 @@ fn tile_number(n: usize) -> u32 {
     at_most(n, 4294967295) as u32
 }
 
-fn read_numbers(line: &[u8]) -> Asked {
-    let strands = number_field(line, b"strands");
-    let tile = number_field(line, b"tile");
-    Asked {
-        readable: is_number(strands) && is_number(tile),
-        strands: number_in(strands),
-        tile: tile_number(number_in(tile)),
-    }
-}
-
-// Asks where the names and the numbers could be read.
-fn tile_asked(
-    asked: Asked,
-    names: NamesRead,
-    bytes: &[u8],
-    numbers: &[usize],
-    out: &mut [u8],
-) -> usize
-    ensures { result ≤ length out.old }
-{
-    if names.readable && asked.readable {
-        return put_tile(asked.strands, &names.names(bytes, numbers), asked.tile, out);
-    }
-    unreadable(out)
+fn read_numbers(line: &[u8]) -> Option<Asked> {
+    let strands = number_field(line, b"strands")? as usize;
+    let tile = tile_number(number_field(line, b"tile")? as usize);
+    Some(Asked { strands, tile })
 }
 
 // The answer to a case.
@@ -64,5 +43,11 @@ pub(crate) fn answer_tile(line: &[u8], out: &mut [u8]) -> usize
     let mut bytes = [0u8; 33136];
     let mut numbers = [0usize; 80];
     let names = read_names(line, &mut bytes, &mut numbers);
-    tile_asked(read_numbers(line), names, &bytes, &numbers, out)
+    match (names, read_numbers(line)) {
+        (Some(lengths), Some(asked)) => {
+            let names = lengths.names(&bytes, &numbers);
+            put_tile(asked.strands, &names, asked.tile, out)
+        }
+        _ => unreadable(out),
+    }
 }

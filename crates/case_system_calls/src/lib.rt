@@ -52,7 +52,7 @@ fn system_into(
     let mut scaffold = [0u32; 1089];
     let mut logs = [0.0; 65];
     let mut seeds = [0u32; 36];
-    let read = read_system(
+    let Some(read) = read_system(
         line,
         &mut strand_glues,
         &mut scaffold,
@@ -60,10 +60,9 @@ fn system_into(
         entropy,
         &mut logs,
         &mut seeds,
-    );
-    if !read.readable {
+    ) else {
         return unreadable(out);
-    }
+    };
     let system = System {
         sizes: read.sizes,
         strand_glues: front(&strand_glues, read.strand_glues),

@@ -1,22 +1,22 @@
 // The fields of a system in a case line (docs/CASES.md, "Calls on systems"), read to the fronts of lent tables.
 #![tactic(auto)]
 
+ghost use Rattle.std.specs.Prelude.{IfSome};
 ghost use Rattle.case_systems.specs.Within.{Within};
 
 mod lists;
 mod sizes;
 
 use bay_system::Sizes;
-pub use case_constraints::{ConstraintsRead, bays, read_constraints};
+pub use case_constraints::{ConstraintsRead, read_constraints};
 pub use case_field_reads::list_field;
 use case_matrices::matrices_into;
 use lists::lists_into;
 use sizes::read_sizes;
 
-// What was read of a system: whether all of it could be, its sizes, and how far each table is filled.
+// What was read of a system: its sizes, and how far each table is filled.
 #[derive(Clone, Copy)]
 pub struct SystemRead {
-    pub readable: bool,
     pub sizes: Sizes,
     pub strand_glues: usize,
     pub scaffold: usize,
@@ -26,12 +26,8 @@ pub struct SystemRead {
     pub seeds: usize,
 }
 
-// Whether each of three parts could be read.
-fn all(sizes: bool, lists: bool, matrices: bool) -> bool {
-    sizes && lists && matrices
-}
-
-// Reads a system into the tables that are lent for it.
+// Reads a system into the tables that are lent for it, if all of it can be read. The six tables stay parameters of their own: a
+// struct of them would be built for this one call and taken apart by it again, so it is no plainer.
 pub fn read_system(
     line: &[u8],
     strand_glues: &mut [u32],
@@ -40,21 +36,22 @@ pub fn read_system(
     entropy: &mut [f64],
     logs: &mut [f64],
     seeds: &mut [u32],
-) -> SystemRead
-    ensures { Within result strand_glues.old scaffold.old delta_g.old entropy.old logs.old seeds.old }
+) -> Option<SystemRead>
+    ensures { IfSome result (λ read. Within read strand_glues.old scaffold.old delta_g.old entropy.old logs.old seeds.old) }
 {
-    let sizes = read_sizes(line);
-    let lists = lists_into(line, strand_glues, scaffold, logs, seeds);
-    let matrices = matrices_into(line, sizes.sizes.glues, delta_g, entropy);
-    let read = sizes.sizes;
-    SystemRead {
-        readable: all(sizes.readable, lists.readable, matrices.readable),
-        sizes: read,
+    let sizes = read_sizes(line)?;
+    let lists = lists_into(line, strand_glues, scaffold, logs, seeds)?;
+    let matrices = matrices_into(line, sizes.glues, delta_g, entropy);
+    if !matrices.readable {
+        return None;
+    }
+    Some(SystemRead {
+        sizes,
         strand_glues: lists.strand_glues,
         scaffold: lists.scaffold,
         delta_g: matrices.delta_g,
         entropy: matrices.entropy,
         logs: lists.logs,
         seeds: lists.seeds,
-    }
+    })
 }

@@ -1,37 +1,32 @@
 // The lists of a system: glues, logarithms and seeds.
+ghost use Rattle.std.specs.Prelude.{IfSome};
 ghost use Rattle.case_systems.specs.Within.{ListsWithin};
 
 use case_field_reads::list_field;
 
-// Whether all four could be read, and how many items each has.
+// How many items each of the four has.
 #[derive(Clone, Copy)]
 pub(crate) struct Lists {
-    pub readable: bool,
     pub strand_glues: usize,
     pub scaffold: usize,
     pub logs: usize,
     pub seeds: usize,
 }
 
-// Reads the four lists.
+// Reads the four lists, if all can be.
 pub(crate) fn lists_into(
     line: &[u8],
     strand_glues: &mut [u32],
     scaffold: &mut [u32],
     logs: &mut [f64],
     seeds: &mut [u32],
-) -> Lists
-    ensures { ListsWithin result strand_glues.old scaffold.old logs.old seeds.old }
+) -> Option<Lists>
+    ensures { IfSome result (λ read. ListsWithin read strand_glues.old scaffold.old logs.old seeds.old) }
 {
-    let own = list_field(line, b"strand_glues", strand_glues);
-    let bays = list_field(line, b"scaffold", scaffold);
-    let each = list_field(line, b"logs", logs);
-    let triples = list_field(line, b"seeds", seeds);
-    Lists {
-        readable: own.is_some() && bays.is_some() && each.is_some() && triples.is_some(),
-        strand_glues: own.unwrap_or(0),
-        scaffold: bays.unwrap_or(0),
-        logs: each.unwrap_or(0),
-        seeds: triples.unwrap_or(0),
-    }
+    Some(Lists {
+        strand_glues: list_field(line, b"strand_glues", strand_glues)?,
+        scaffold: list_field(line, b"scaffold", scaffold)?,
+        logs: list_field(line, b"logs", logs)?,
+        seeds: list_field(line, b"seeds", seeds)?,
+    })
 }

@@ -7,5 +7,5 @@ pub returns : goal.returns
 returns c =
     let a = c.args in
     let e = c.text_field.ensures in
-    let p = as_between is_sign byte_of signs a.key.now a.line.now a.from a.to a.room.now c.least-end.ensures c.least-start.ensures (e.value, e.room_after) c.counted.ensures in
+    let p = as_between is_sign byte_of signs a.key.now a.line.now a.from a.to a.room.now c.least-end.ensures c.least-start.ensures (e.value, e.room_after) in
     record { count = p.0; table = p.1 }

@@ -2,14 +2,10 @@
 use Rattle.bay_system.specs.System.{system_of}
 use Rattle.bay_lists.specs.Lists.{constraints_of}
 use Rattle.text_put.proofs.Putting.{put_as}
-use Rattle.case_sets.proofs.Asking.{unread, read}
+use Rattle.case_sets.proofs.Asking.{told}
 use Rattle.case_sets.proofs.sets_asked.Goals as goal
-
-pub returns-then-not-readable : goal.returns-then-not-readable
-returns-then-not-readable c = let a = c.args in
-    put_as (unread a.readable (system_of a.system.now) (constraints_of a.constraints.now) a.sets.now c.if-not-readable.true-raw) c.unreadable.ensures
 
 pub returns : goal.returns
 returns c = let a = c.args in
     let e = c.allowed_tiles-answer.ensures in
-    put_as (read a.readable (system_of a.system.now) (constraints_of a.constraints.now) a.sets.now c.if-not-readable.false-raw _ _ _ e.answer e.sets c.all_long_numbers.ensures) c.put_sets.ensures
+    put_as (told (system_of a.system.now) (constraints_of a.constraints.now) a.sets.now _ _ _ e.answer e.sets c.all_long_numbers.ensures) c.put_sets.ensures
