@@ -17,7 +17,7 @@ pub(crate) struct Rooms<'a> {
     pub(crate) out: &'a mut [u8],
 }
 
-// Writes a line that stands in `out`.
+// Writes a line that stands in `out`, whose end comes beside it as `answer` gives it.
 fn write_line(out: &mut [u8], at: usize) {
     let end = put_text(out, at, b"\n");
     io::write_all(STDOUT, front(out, end));

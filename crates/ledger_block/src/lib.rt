@@ -16,7 +16,8 @@ pub struct Stretch {
     pub end: usize,
 }
 
-// What the code knows of a bay when it writes its block.
+// What the code knows of a bay when it writes its block. The two flags say which neighbours it has;
+// `previous` and `leaving` are sets in any case.
 #[derive(Clone, Copy)]
 pub struct Bay {
     pub set: u64,
@@ -41,7 +42,8 @@ fn own_of(bay: Bay, here: &[f64], side: &[f64; PAIRS], u: usize, t: usize) -> Ow
 }
 
 // Writes the rows of the bay's strands from `at` on, for row q of what stays and u on the previous
-// bay, with the block before at `before`.
+// bay, with the block before at `before`. The lent tables stay two parameters: a struct of `&mut`s
+// would have each contract speak of its fields' loans, at entry and at exit.
 fn put_line(
     bay: Bay,
     here: &[f64],
@@ -64,6 +66,7 @@ fn put_line(
 {
     let mut left = bay.set;
     let mut j = at;
+    // A `while`: it counts no place, the set itself loses its lowest strand each turn.
     while !sets::is_empty(left) {
         let t = sets::first(left) as usize;
         let own = own_of(bay, here, &bonds.side, u, t);

@@ -22,7 +22,8 @@ pub struct Bonds {
 }
 
 // What is fixed of a strand in a row: its bay energy, its bond to the previous bay where that is of
-// the same line, and whether there is a bay below, of the previous major line.
+// the same line, and whether there is a bay below, of the previous major line. `below` is a flag, since
+// its strand is another one for each sum of the row: no single bond could stand in its place.
 #[derive(Clone, Copy)]
 pub struct Own {
     pub strand: usize,
@@ -93,6 +94,7 @@ pub fn row(
     let mut choice = candidate(before, q, major, own, sets::first(leaving) as usize);
     let mut left = sets::rest(leaving);
     let mut i = q + width;
+    // A `while`: it counts no place, the set itself loses its lowest strand each turn.
     while !sets::is_empty(left) {
         let s = sets::first(left) as usize;
         choice = ledger_rows::lower(choice, candidate(before, i, major, own, s));

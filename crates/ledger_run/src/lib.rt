@@ -15,7 +15,7 @@ use ledger_way_back::{Place, trace};
 
 // The least scan sum, with the ledger filled and the layout written in scan order. An answer that is
 // NaN or minus infinity is refusal 10: then the needed places of both tables are 0, and the layout is
-// as it was.
+// as it was. The tables that it writes stay parameters, as those of `ledger_block::put_line`.
 pub fn run(
     window: usize,
     sets: &[u64],

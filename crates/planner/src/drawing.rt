@@ -1,6 +1,6 @@
 // The drawing of a layout, in a file that is whole or is not there.
 use crate::line::Line;
-use crate::messages::{Told, begin, finish, say};
+use crate::messages::{Told, say, say_file};
 use crate::task::{Found, Tables, Task};
 use crate::words::word_at;
 use plan_layout_svg::put_svg;
@@ -43,7 +43,7 @@ fn write_file(task: &Task<'_>, file: &[u8], text: &[u8]) -> Result<(), Told> {
     name.put(b".partial");
     let partial = name.text();
     if !write_new(task.rt, partial, text) {
-        return Err(say_unwritten(
+        return Err(say_file(
             task.folder,
             partial,
             b" cannot be made; where it is left from a run that was stopped, remove it",
@@ -51,7 +51,7 @@ fn write_file(task: &Task<'_>, file: &[u8], text: &[u8]) -> Result<(), Told> {
     }
     if text_host::rename(task.rt, partial, file).is_err() {
         let _ = text_host::remove(task.rt, partial);
-        return Err(say_unwritten(task.folder, file, b" cannot be written"));
+        return Err(say_file(task.folder, file, b" cannot be written"));
     }
     Ok(())
 }
@@ -68,12 +68,4 @@ fn write_new(rt: &HostRuntime, file: &[u8], text: &[u8]) -> bool {
         }
         Err(_) => false,
     }
-}
-
-// Says that a file could not be written.
-fn say_unwritten(folder: &[u8], file: &[u8], text: &[u8]) -> Told {
-    let mut room = [0u8; 12288];
-    let mut line = begin(&mut room, folder);
-    line.put(file);
-    finish(&mut line, text)
 }

@@ -1,5 +1,5 @@
 // The six sheets of a folder, each read whole, and all but the register's tested to be text.
-use crate::messages::{Told, begin, finish, finish_stray, say, say_sheet};
+use crate::messages::{Told, begin_file, finish, finish_stray, say, say_file};
 use crate::task::Task;
 use sheet_files::{Unread, put_path, read_file};
 use text_fronts::front;
@@ -21,8 +21,7 @@ pub(crate) fn check_folder(task: &Task<'_>) -> Result<(), Told> {
 // Says how far a file could be read, and why that is not enough.
 fn say_read(folder: &[u8], name: &[u8], word: &[u8], bytes: usize, text: &[u8]) -> Told {
     let mut room = [0u8; 8192];
-    let mut line = begin(&mut room, folder);
-    line.put(name);
+    let mut line = begin_file(&mut room, folder, name);
     line.put_with(word, bytes);
     finish(&mut line, text)
 }
@@ -30,8 +29,7 @@ fn say_read(folder: &[u8], name: &[u8], word: &[u8], bytes: usize, text: &[u8]) 
 // Says that a file is no text.
 fn say_no_text(folder: &[u8], name: &[u8], place: usize) -> Told {
     let mut room = [0u8; 8192];
-    let mut line = begin(&mut room, folder);
-    line.put(name);
+    let mut line = begin_file(&mut room, folder, name);
     finish_stray(&mut line, place)
 }
 
@@ -44,7 +42,7 @@ pub(crate) fn read_whole<'a>(
     let most = room.len();
     match read_file(task.rt, task.folder, name, room) {
         Ok(bytes) => Ok(front(room, bytes)),
-        Err(Unread::Unopened) => Err(say_sheet(
+        Err(Unread::Unopened) => Err(say_file(
             task.folder,
             name,
             b" is missing or cannot be read; a folder has strands.csv, scaffold.csv, energies.csv, seeds.csv, temperature.csv and constraints.csv",
@@ -74,7 +72,7 @@ pub(crate) fn read_sheet<'a>(
 ) -> Result<&'a [u8], Told> {
     let text = read_whole(task, name, room)?;
     if text.is_empty() {
-        return Err(say_sheet(
+        return Err(say_file(
             task.folder,
             name,
             b" is empty; save it again (no seeds are the word none)",

@@ -81,7 +81,7 @@ fn key_values<'a>(
     }
 }
 
-// Fills as much of the matrices as the glues ask for, from tables that have room for 2048 keys.
+// Fills as much of the matrices as the glues ask for, from tables that have room for 2048 keys. Its tables stay parameters for the same reason.
 fn matrices_of(
     sheet: &[u8],
     records: usize,

@@ -40,11 +40,17 @@ pub(crate) fn say(folder: &[u8], text: &[u8]) -> Told {
     finish(&mut line, text)
 }
 
-// Writes a sentence that begins with a sheet's name.
-pub(crate) fn say_sheet(folder: &[u8], sheet: &[u8], text: &[u8]) -> Told {
-    let mut room = [0u8; 8192];
-    let mut line = begin(&mut room, folder);
-    line.put(sheet);
+// Begins a sentence about a file.
+pub(crate) fn begin_file<'a>(room: &'a mut [u8], folder: &[u8], file: &[u8]) -> Line<'a> {
+    let mut line = begin(room, folder);
+    line.put(file);
+    line
+}
+
+// Writes a sentence about a file. There is room for two paths, the folder's and the file's.
+pub(crate) fn say_file(folder: &[u8], file: &[u8], text: &[u8]) -> Told {
+    let mut room = [0u8; 12288];
+    let mut line = begin_file(&mut room, folder, file);
     finish(&mut line, text)
 }
 

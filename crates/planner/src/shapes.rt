@@ -1,7 +1,7 @@
 // Whether a sheet is a table, and what is said where it is none.
 ghost use Rattle.std.specs.Prelude.{◌^◌, ◌≤◌, ◌<◌, IfOk};
 
-use crate::messages::{Told, begin, finish, say_field, say_sheet};
+use crate::messages::{Told, begin, finish, say_field, say_file};
 use sheet_records::check_table;
 
 // What is said of a sheet that is no table: its name, and what is wrong where it has too many records, with the refusal that these are, or where a
@@ -27,7 +27,7 @@ pub(crate) fn records_of(
     ensures { IfOk result (λ n. n ≤ most) }
 {
     match check_table(text, width, most) {
-        Ok(0) => Err(say_sheet(folder, form.sheet, b" has no record")),
+        Ok(0) => Err(say_file(folder, form.sheet, b" has no record")),
         Ok(records) => Ok(records),
         Err(place) if most < place.line => Err(say_many(folder, place.line, form)),
         Err(place) => Err(say_field(folder, form.sheet, place, form.record)),

@@ -23,7 +23,7 @@ fn put_finite(line: &mut Line<'_>, energy: f64) {
     }
 }
 
-// An energy in kcal/mol, and its bits where they are asked for.
+// An energy in kcal/mol, and its bits where they are asked for: `exact` is the option of that name.
 pub(crate) fn put_kcal(line: &mut Line<'_>, exact: bool, energy: f64) {
     put_finite(line, energy);
     line.put(b" kcal/mol");

@@ -15,7 +15,8 @@ pub(crate) enum Report {
 }
 
 // What is to be shown: `exact` asks for the bits of energies, `several` says that more than one folder is planned, `why` is the bay that is asked
-// about, and `svg` the place of the word that names the drawing's file.
+// about, and `svg` the place of the word that names the drawing's file. The two flags are questions of their own: each answer of one goes with each of
+// the other.
 #[derive(Clone, Copy)]
 pub(crate) struct Wish {
     pub(crate) exact: bool,

@@ -80,7 +80,7 @@ pub(crate) fn folders(rt: &HostRuntime) -> usize {
         .count()
 }
 
-// What is wrong with a word.
+// What is wrong with a word: each variant is a fault, and a word without one has the answer `None`.
 #[derive(Clone, Copy, PartialEq, Eq)]
 pub(crate) enum Fault {
     TooLong,

@@ -52,7 +52,7 @@ fn chosen_sets(
     sets[bay] = sets::both(permitted, alone);
 }
 
-// The run of what passed 1 to 5 and of a choice: the sets are worked out aside, then 7, or the run.
+// The run of what passed 1 to 5 and of a choice: the sets are worked out aside, then 7, or the run. Its parameters are those of `mfe_with_choice`.
 fn run_chosen(
     system: &System<'_>,
     constraints: &Constraints<'_>,
@@ -76,6 +76,7 @@ fn run_chosen(
 
 // The least energy of a layout that has the strand on the bay: the energy in kcal/mol, that layout row by row, and the ledger of the run, or a refusal. The
 // bay's own list does not count, its seed and its glue do. A refusal writes nothing, but 10 sets the needed places of both tables to 0.
+// The parameters are those that docs/RULES.md and docs/PROMISES.md name.
 pub fn mfe_with_choice(
     system: &System<'_>,
     constraints: &Constraints<'_>,

@@ -12,7 +12,7 @@ use bay_system::{Sizes, System};
 use run_mfe::mfe_configuration;
 use units::Refusal;
 
-// An answer in numbers: the refusal's number, 0 where there is none, its first value, and the energy in kcal/mol, 0.0 where there is none.
+// An answer in numbers, since C has no `Result`: the refusal's number, 0 where there is none, its first value, and the energy in kcal/mol, 0.0 where there is none.
 #[repr(C)]
 #[derive(Clone, Copy)]
 pub struct RunNumbers {
@@ -50,7 +50,8 @@ fn constraints<'a>(constrained: u8, offsets: &'a [usize], tiles: &'a [u32]) -> C
     }
 }
 
-// The layout of least energy, its energy and its ledger, as `sdc2d_thermo::mfe_configuration` gives them.
+// The layout of least energy, its energy and its ledger, as `sdc2d_thermo::mfe_configuration` gives them. C has neither the structs nor their references,
+// so that each size and slice is a parameter.
 pub fn run_export_mfe_configuration(
     rows: usize,
     cols: usize,

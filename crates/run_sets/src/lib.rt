@@ -19,7 +19,8 @@ use run_scan_tables::{MOST_BAYS, fill_scan, window};
 use run_system::run_system;
 use units::Refusal;
 
-// The run over sets in scan order: refusals 8, 9 and 10, or the least energy.
+// The run over sets in scan order: refusals 8, 9 and 10, or the least energy. The clauses on the system are those of `run_sets`, whose callers have a
+// plain `System`: a type that keeps these facts would be one more for them.
 fn run_scan(
     system: &System<'_>,
     scan: &[u64],

@@ -17,7 +17,7 @@ use run_tables::{MOST_SITES, fill_bonds, fill_sites};
 use units::MOST_STRANDS;
 
 // Lends the fronts of the tables that bays fill, as the last thing that a function does: nothing is known afterwards of what stands
-// behind them. It takes slices, since a part of an array behind a reference cannot be lent.
+// behind them. It takes slices, since a part of an array behind a reference cannot be lent; one by one, as `ledger_block::put_line` does.
 fn run_fronts(
     z: Sizes,
     scan: &[u64],
@@ -51,6 +51,7 @@ fn run_fronts(
 }
 
 // Works out the energies of the bays, then runs. Their table is long: it is handed over as the array that it is, and made a slice here.
+// What is asked of the system stays in the clauses: a type that keeps it would be one more for the callers of the public functions.
 fn run_sites(
     system: &System<'_>,
     scan: &[u64],

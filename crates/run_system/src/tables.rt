@@ -9,6 +9,7 @@ use ledger_row_choice::Bonds;
 use run_scan_tables::{lay_out, window};
 
 // Fills the ledger from the tables of a run and lays out what its notes lead back to. The strands in scan order stand in `order` for a while.
+// The tables that it writes stay parameters, as those of `ledger_block::put_line`.
 pub(crate) fn run_over(
     rows: usize,
     cols: usize,

@@ -22,7 +22,7 @@ fn pair_energy(system: &System<'_>, north_south: bool, s: usize, t: usize) -> f6
     }
 }
 
-// Writes the bonds of all pairs, a row for each t: s is the row's place s.
+// Writes the bonds of all pairs, a row for each t: s is the row's place s. `north_south` is passed on as `energy_bays` takes it.
 pub fn fill_bonds(system: &System<'_>, north_south: bool, table: &mut [f64])
     requires readable { Readable (system_of system.now) }
     requires table_len { length table.old ≡ most_strands * most_strands }
