@@ -15,7 +15,7 @@ fn place(outer: usize, first: usize, inner: usize) -> usize {
     if outer == first && inner == 1 { 0 } else { 1 }
 }
 
-// The list of the bonds of each pair of strands.
+// The list of the bonds of each pair of strands; `north_south` is a bool, since it is the library's own parameter.
 fn put_pairs(system: &System<'_>, north_south: bool, out: &mut [u8], at: usize) -> usize {
     let mut next = at;
     for first in 1..system.sizes.strands {

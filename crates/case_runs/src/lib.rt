@@ -22,7 +22,8 @@ fn rows_named(answer: Result<f64, Refusal>) -> usize {
     }
 }
 
-// How many rows the ledger of a run needs, which is asked with a layout of that length and empty tables; 0 where it is refused before that.
+// How many rows the ledger of a run needs, which is asked with a layout of that length and empty tables; 0 where it is refused before that,
+// since that is the length of ledger to lend then.
 fn need_of(system: &System<'_>, constraints: &Constraints<'_>, length: usize) -> usize {
     let mut layout = [0u32; 1089];
     let n = at_most(length, 1089);

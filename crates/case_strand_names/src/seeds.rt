@@ -70,6 +70,8 @@ fn read_numbers(line: &[u8], places: usize) -> Option<Asked> {
     })
 }
 
+// The seeds, or a refusal with what became of the lent table. The list of `case_sets` is told likewise, of another type by another word: one
+// function of a word and a function that puts the list down is no plainer.
 fn put_seeds(out: &mut [u8], answer: Result<(), Refusal>, kept: bool, seeds: &[u32]) -> usize
     ensures { result ≤ length out.old }
 {

@@ -8,7 +8,7 @@ use case_field_reads::at_most;
 use case_fields::number_field;
 use sdc2d::{StrandNames, tile_name, tile_name_refusal};
 
-// The name, or the number of the refusal.
+// The name, or the number of the refusal: the line of this call has none of its values.
 fn put_tile(strands: usize, names: &StrandNames<'_>, tile: u32, out: &mut [u8]) -> usize
     ensures { result ≤ length out.old }
 {
