@@ -1,17 +1,13 @@
 -- Whether each place of a table from one on has a value, and the word that says that one has another. Assumes nothing.
-use Rattle.std.specs.Prelude.{ℕ, Bool, true, ◌&&◌, List, [], ◌∷◌, Float, pos, drop}
+use Rattle.std.specs.Prelude.{ℕ, Bool, ◌&&◌, List, Float, pos, drop}
+use Rattle.std.specs.List.{list_all}
 use Rattle.std.specs.Float.{binary64}
 use Rattle.std.specs.Float.Ieee.{eq, div, of_int}
 use Rattle.text_put.specs.Words.{bytes}
 
--- whether each of a list's elements passes a test
-unfoldable pub every : {A : Type 0} → (A → Bool) → List A → Bool
-every same [] = true
-every same (x ∷ xs) = same x && every same xs
-
 -- whether each element of a table passes a test, those before a place left out
 abbrev pub all_from : {A : Type 0} → (A → Bool) → ℕ → List A → Bool
-all_from same from table = every same (drop from table)
+all_from same from table = list_all same (drop from table)
 
 -- 1 divided by a float, infinite for a zero, with the zero's sign
 abbrev pub inverse : Float → Float

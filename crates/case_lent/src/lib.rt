@@ -1,62 +1,17 @@
 // What lent tables hold: whether each place from one on still has the value that it had.
 #![tactic(auto)]
 
-ghost use Rattle.std.specs.Prelude.{cond, ◌≡◌, eqb};
+ghost use Rattle.std.specs.Prelude.{cond, ◌≡◌};
 ghost use Rattle.text_put.specs.Puts.{place_after, written};
 ghost use Rattle.case_lent.specs.Kept.{all_from, same_float, rest_text};
 
 use case_answer_lines::put_text;
 
-pub fn all_bytes(table: &[u8], from: usize, value: u8) -> bool
-    ensures { result ≡ all_from (λ x. eqb x value) from table.now }
+// For any type but a float: its two zeros are equal, and these tables tell them apart.
+pub fn all_from<T: Copy + PartialEq>(table: &[T], from: usize, value: T) -> bool
+    ensures { result ≡ all_from (λ x. T.eq x value) from table.now }
 {
-    let mut i = from;
-    while i < table.len() {
-        if table[i] != value {
-            return false;
-        }
-        i += 1;
-    }
-    true
-}
-
-pub fn all_small_numbers(table: &[u32], from: usize, value: u32) -> bool
-    ensures { result ≡ all_from (λ x. eqb x value) from table.now }
-{
-    let mut i = from;
-    while i < table.len() {
-        if table[i] != value {
-            return false;
-        }
-        i += 1;
-    }
-    true
-}
-
-pub fn all_numbers(table: &[usize], from: usize, value: usize) -> bool
-    ensures { result ≡ all_from (λ x. eqb x value) from table.now }
-{
-    let mut i = from;
-    while i < table.len() {
-        if table[i] != value {
-            return false;
-        }
-        i += 1;
-    }
-    true
-}
-
-pub fn all_long_numbers(table: &[u64], from: usize, value: u64) -> bool
-    ensures { result ≡ all_from (λ x. eqb x value) from table.now }
-{
-    let mut i = from;
-    while i < table.len() {
-        if table[i] != value {
-            return false;
-        }
-        i += 1;
-    }
-    true
+    table.iter().skip(from).all(|x| *x == value)
 }
 
 // Whether two floats are the same; of zeros the signs are told apart, by their inverses.
@@ -69,14 +24,7 @@ fn same_float(x: f64, y: f64) -> bool
 pub fn all_floats(table: &[f64], from: usize, value: f64) -> bool
     ensures { result ≡ all_from (λ x. same_float x value) from table.now }
 {
-    let mut i = from;
-    while i < table.len() {
-        if !same_float(table[i], value) {
-            return false;
-        }
-        i += 1;
-    }
-    true
+    table.iter().skip(from).all(|x| same_float(*x, value))
 }
 
 // ` rest` where a place behind what was written does not hold what it held.

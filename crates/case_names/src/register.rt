@@ -3,7 +3,7 @@ use case_answer_lines::{put_value, refused_with_tables, unreadable};
 use case_answer_lists::{put_numbers, put_small_numbers};
 use case_field_reads::at_most;
 use case_fields::number_field;
-use case_lent::{all_numbers, all_small_numbers, put_rest};
+use case_lent::{all_from, put_rest};
 use case_parts::{bays_of, length_of, list_between, part_from, read_grid, text_between};
 use case_text::front;
 use sdc2d::register;
@@ -52,7 +52,7 @@ fn read_numbers(line: &[u8]) -> Option<Asked> {
 fn put_bases(out: &mut [u8], at: usize, bases: &[usize], count: usize) -> usize {
     let used = at_most(count, MOST_BASES) * 2;
     let next = put_numbers(out, at, b" bases=", front(bases, used));
-    put_rest(out, next, all_numbers(bases, used, 0))
+    put_rest(out, next, all_from(bases, used, 0))
 }
 
 fn put_registered(
@@ -70,7 +70,7 @@ fn put_registered(
 
 // Whether each place of the three tables still holds 7.
 fn all_kept(glues: &[u32], scaffold: &[u32], bases: &[usize]) -> bool {
-    all_small_numbers(glues, 0, 7) && all_small_numbers(scaffold, 0, 7) && all_numbers(bases, 0, 7)
+    all_from(glues, 0, 7) && all_from(scaffold, 0, 7) && all_from(bases, 0, 7)
 }
 
 // Asks with the very tables that are lent.

@@ -1,7 +1,7 @@
 // Answer lines: the least energy with layout and ledger, or a refusal with what it left in the lent slices.
 use case_answer_lines::{put_float, put_text, put_value, refused};
 use case_answer_lists::{put_next_float, put_next_number, put_small_numbers};
-use case_lent::{all_bytes, all_floats, all_small_numbers, put_rest};
+use case_lent::{all_floats, all_from, put_rest};
 use case_text::front;
 use units::Refusal;
 
@@ -32,7 +32,7 @@ fn put_ledger(out: &mut [u8], at: usize, need: usize, energies: &[f64], leaving:
 
 // Whether the places of both tables past the need hold what they held.
 fn rest_kept(need: usize, energies: &[f64], leaving: &[u8]) -> bool {
-    all_floats(energies, need, 7.0) && all_bytes(leaving, need, 7)
+    all_floats(energies, need, 7.0) && all_from(leaving, need, 7)
 }
 
 fn put_least(
@@ -53,17 +53,17 @@ fn put_least(
 
 // Whether the needed places of both tables are 0.
 fn front_cleared(need: usize, energies: &[f64], leaving: &[u8]) -> bool {
-    all_floats(front(energies, need), 0, 0.0) && all_bytes(front(leaving, need), 0, 0)
+    all_floats(front(energies, need), 0, 0.0) && all_from(front(leaving, need), 0, 0)
 }
 
 // Whether the lent slices are as they were.
 fn all_kept(layout: &[u32], energies: &[f64], leaving: &[u8]) -> bool {
-    all_small_numbers(layout, 0, 7) && rest_kept(0, energies, leaving)
+    all_from(layout, 0, 7) && rest_kept(0, energies, leaving)
 }
 
 // Whether the needed places of the tables are cleared, and all others as they were.
 fn all_cleared(need: usize, layout: &[u32], energies: &[f64], leaving: &[u8]) -> bool {
-    all_small_numbers(layout, 0, 7)
+    all_from(layout, 0, 7)
         && front_cleared(need, energies, leaving)
         && rest_kept(need, energies, leaving)
 }

@@ -11,7 +11,7 @@ use bay_lists::Constraints;
 use bay_system::System;
 use case_answer_lines::{refused_with_tables, unreadable};
 use case_answer_lists::put_long_numbers;
-use case_lent::all_long_numbers;
+use case_lent::all_from;
 use case_parts::{bays_of, length_of};
 use case_systems::read_constraints;
 use sdc2d_thermo::allowed_tiles;
@@ -38,7 +38,7 @@ fn sets_asked(
         Put out.old 0 (asked_text (system_of system.now) c sets.old) result out.new }
 {
     let answer = allowed_tiles(system, constraints, sets);
-    put_sets(out, answer, all_long_numbers(sets, 0, 7), sets)
+    put_sets(out, answer, all_from(sets, 0, 7), sets)
 }
 
 // The answer to a case on a system.

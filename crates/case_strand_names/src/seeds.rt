@@ -6,7 +6,7 @@ use case_answer_lines::{refused_with_tables, unreadable};
 use case_answer_lists::put_small_numbers;
 use case_field_reads::at_most;
 use case_fields::number_field;
-use case_lent::all_small_numbers;
+use case_lent::all_from;
 use case_parts::{length_of, list_between, part_from, read_grid, text_between};
 use sdc2d::{SeedList, StrandNames, seeds_by_name};
 use text_entries::Entries;
@@ -92,7 +92,7 @@ fn seeds_asked(
     ensures { result ≤ length out.old }
 {
     let answer = seeds_by_name(asked.rows, asked.cols, asked.strands, names, given, seeds);
-    put_seeds(out, answer, all_small_numbers(seeds, 0, 7), seeds)
+    put_seeds(out, answer, all_from(seeds, 0, 7), seeds)
 }
 
 // Lends a table of sevens that is as long as the case says.

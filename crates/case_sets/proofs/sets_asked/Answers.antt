@@ -8,4 +8,4 @@ use Rattle.case_sets.proofs.sets_asked.Goals as goal
 pub returns : goal.returns
 returns c = let a = c.args in
     let e = c.allowed_tiles-answer.ensures in
-    put_as (told (system_of a.system.now) (constraints_of a.constraints.now) a.sets.now _ _ _ e.answer e.sets c.all_long_numbers.ensures) c.put_sets.ensures
+    put_as (told (system_of a.system.now) (constraints_of a.constraints.now) a.sets.now _ _ _ e.answer e.sets c.all_from.ensures) c.put_sets.ensures
