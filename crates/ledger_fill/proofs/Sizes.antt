@@ -1,15 +1,15 @@
 -- How many rows each block has, as the code goes from bay to bay: the width by division, the rows by a product that stays small. Assumes nothing.
 use mathlib.Core.Path.{◌≡◌, refl, sym, ap, ap₂, ◌∙◌, subst}
+use mathlib.Core.Logic.{◌↔◌}
 use mathlib.Core.Bool.{cond}
 use mathlib.Core.List.{List}
 use Prim.Native.Nat.{ℕ, suc, ◌+◌, ◌-◌, ◌*◌, ◌/◌, ◌≤◌, ◌<◌}
 use native.Mathlib.Nat.{mul-div_cancel_left, mul-le-mul}
 use native.Mathlib.Numerals.{add-one}
-use native.Mathlib.Decide.{le_ind}
+use native.Mathlib.Decide.{le_ind, dec_le}
 use native.Mathlib.Omega.{arith}
 use lib.Ieee.{Float}
 use lib.ListN.{length, get_or}
-use Rattle.std.specs.Prelude.{Some, None}
 use borrow.Author.Tests.{le-leb, lt-leb}
 use Rattle.units.specs.Limits.{most_rows, most_strands}
 use Rattle.sets.specs.Set.{has}
@@ -20,7 +20,7 @@ use Rattle.ledger_rows.proofs.Numbering.{size_more, size_leavers, leavers_some}
 use Rattle.ledger_block.specs.declared.Bay.{Bay}
 use Rattle.ledger_row_choice.specs.declared.Bonds.{Bonds}
 use Rattle.ledger_row_choice.specs.Row.{strands_of}
-use Rattle.ledger_fill.specs.Handed.{scan_of, allowed}
+use Rattle.ledger_fill.specs.Handed.{scan_of, capped}
 use Rattle.ledger_fill.specs.Bays.{leaving_of, bay_of}
 use Rattle.ledger_fill.proofs.Agrees.{leaving_is}
 
@@ -49,12 +49,19 @@ module _ (z : Scan) where
 pub product_small : (width set : ℕ) → width ≤ most_rows → width * length (strands_of set) ≤ most_rows * most_strands
 product_small width set h = omega (arith, mul-le-mul {n₁ = width} {m₁ = length (strands_of set)} {n₂ = most_rows} {m₂ = most_strands} h (length_le (has set) most_strands))
 
--- ---- the need, where it is allowed
-pub allowed_in : (n : ℕ) → n ≤ most_rows → Some n ≡ allowed n
-allowed_in n h = sym (ap (λ b. cond b (Some n) None) (le-leb n most_rows h))
+-- ---- the need, capped
+pub capped_in : (n : ℕ) → n ≤ most_rows → n ≡ capped n
+capped_in n h = sym (ap (λ b. cond b n (most_rows + 1)) (le-leb n most_rows h))
 
-pub allowed_out : (n : ℕ) → most_rows < n → None ≡ allowed n
-allowed_out n h = sym (ap (λ b. cond b (Some n) None) (lt-leb n most_rows h))
+pub capped_out : (n : ℕ) → most_rows < n → most_rows + 1 ≡ capped n
+capped_out n h = sym (ap (λ b. cond b n (most_rows + 1)) (lt-leb n most_rows h))
+
+-- the limit is passed exactly where the cap says so, and below it the cap changes nothing
+pub capped_exact : (n : ℕ) → (most_rows < capped n) ↔ (most_rows < n)
+capped_exact n = (λ h. elim (dec_le n most_rows) [ yes l ↦ absurd (omega (arith, capped_in n l)) | no l ↦ omega arith ], λ h. omega (arith, capped_out n h))
+
+pub capped_small : (n : ℕ) → capped n ≤ most_rows → capped n ≡ n
+capped_small n h = elim (dec_le n most_rows) [ yes l ↦ sym (capped_in n l) | no l ↦ absurd (omega (arith, capped_out n (omega arith))) ]
 
 -- ---- the sizes that the code goes through
 -- what is known of bay k as it comes, behind a block with so many rows
@@ -130,10 +137,10 @@ module _ {window : ℕ} {sets : List ℕ} {rows : ℕ → List Float} {bonds : B
       record { some_window = l.some_window; filled = l.filled; within = omega arith; rows_are = e; used_is = counted e; few_rows = omega arith; few = few }
 
   -- one block too many is too many for all
-  pub too_many : {r : ℕ} → k < n → r ≡ size z (k + 1) (suc (window - 1)) → most_rows < used + r → None ≡ allowed (need z n)
-  too_many h e large = allowed_out (need z n) (omega (arith, counted e, need_mono z (k + 1) n (omega arith)))
+  pub too_many : {r : ℕ} → k < n → r ≡ size z (k + 1) (suc (window - 1)) → most_rows < used + r → most_rows + 1 ≡ capped (need z n)
+  too_many h e large = capped_out (need z n) (omega (arith, counted e, need_mono z (k + 1) n (omega arith)))
 
-  pub counting_ends : n ≤ k → Some used ≡ allowed (need z n)
+  pub counting_ends : n ≤ k → used ≡ capped (need z n)
   counting_ends h =
       let all : used ≡ need z n = l.used_is ∙ ap (need z) (omega (arith, l.within)) in
-      ap (λ i. Some i) all ∙ allowed_in (need z n) (omega (arith, l.few))
+      all ∙ capped_in (need z n) (omega (arith, l.few))

@@ -1,6 +1,6 @@
 -- The numbers that a run is handed, and the scan that they make: sets as words, one a bay in scan order; the bonds of all pairs of strands to the
 -- previous major line and to the previous bay; for each bay the energies of its strands. Assumes nothing.
-use Rattle.std.specs.Prelude.{cond, not, List, [], Option, Some, None, ℕ, ◌-◌, ◌*◌, ◌%◌, ◌≤◌, ◌<◌, eqb, leb, Float, length, get_or, take, drop}
+use Rattle.std.specs.Prelude.{cond, not, List, [], ℕ, ◌+◌, ◌-◌, ◌*◌, ◌%◌, ◌≤◌, ◌<◌, eqb, leb, Float, length, get_or, take, drop}
 use Rattle.std.specs.Float.{nan}
 use Rattle.units.specs.Limits.{most_rows, most_strands}
 use Rattle.ledger_rows.specs.Scan.{Scan, EachHasStrand}
@@ -26,9 +26,9 @@ no_bonds = record { major = []; side = [] }
 abbrev pub set_scan : (window : ℕ) → (sets : List ℕ) → Scan
 set_scan window sets = scan_of window sets (λ k. []) no_bonds
 
--- a need that a ledger may have, and none where it is larger
-abbrev pub allowed : ℕ → Option ℕ
-allowed need = cond (leb need most_rows) (Some need) None
+-- a need, and one more than the limit where it is larger
+abbrev pub capped : ℕ → ℕ
+capped need = cond (leb need most_rows) need (most_rows + 1)
 
 -- the energies of bay k's strands in the table of all bays, which has a row of `most_strands` for each
 abbrev pub bay_row : (bays : List Float) → (k : ℕ) → List Float

@@ -7,13 +7,16 @@ ghost use Rattle.units.specs.Limits.{most_rows};
 ghost use Rattle.ledger_rows.specs.Scan.{EachHasStrand};
 ghost use Rattle.ledger_rows.specs.Blocks.{need};
 ghost use Rattle.ledger_row_choice.specs.Row.{strands_of};
-ghost use Rattle.ledger_fill.specs.Handed.{set_scan, run_scan, Fillable, allowed};
+ghost use Rattle.ledger_fill.specs.Handed.{set_scan, run_scan, Fillable, capped};
 ghost use Rattle.ledger_fill.specs.Bays.{leaving_of, bay_of};
 ghost use Rattle.ledger_fill.specs.Last.{LedgerFilled};
 
 use ledger_block::{Bay, Stretch, put_bay};
 use ledger_row_choice::Bonds;
 use units::{MOST_ROWS, MOST_STRANDS};
+
+// One row more than a ledger may have: a number and no `Option`, since `run_room::check_room` promises refusal 8 for each number past the limit.
+const TOO_MANY_ROWS: usize = MOST_ROWS + 1;
 
 // The set that leaves the window as bay k comes: strand 0 alone while none does.
 pub fn leaving(window: usize, sets: &[u64], k: usize) -> u64
@@ -49,12 +52,12 @@ fn rows_of(bay: Bay) -> usize
     bay.width * sets::size(bay.set) as usize
 }
 
-// How many rows the ledger needs, and `None` where that is more than it may have. A product is formed
-// of a size within the limit and the strands of one bay alone.
-pub fn need(window: usize, sets: &[u64]) -> Option<usize>
+// How many rows the ledger needs, and one more than it may have where that is too many. A product is
+// formed of a size within the limit and the strands of one bay alone.
+pub fn need(window: usize, sets: &[u64]) -> usize
     requires window_nonzero { 0 < window }
     requires each_has_strand { EachHasStrand (set_scan window sets.now) (length sets.now) }
-    ensures { result ≡ allowed (need (set_scan window sets.now) (length sets.now)) }
+    ensures { result ≡ capped (need (set_scan window sets.now) (length sets.now)) }
 {
     let mut rows = 1;
     let mut used = 0;
@@ -62,10 +65,10 @@ pub fn need(window: usize, sets: &[u64]) -> Option<usize>
         rows = rows_of(bay_at(window, sets, k, rows));
         used += rows;
         if MOST_ROWS < used {
-            return None;
+            return TOO_MANY_ROWS;
         }
     }
-    Some(used)
+    used
 }
 
 // Writes all blocks from place 0 on, one behind the other, and answers where the last one stands. Row k of `bays`, which

@@ -1,5 +1,5 @@
 -- From a run's steps to its answer and to what it leaves. Assumes nothing.
-use Prim.Native.Nat.{ℕ, ◌*◌, ◌≤◌, ◌<◌}
+use Prim.Native.Nat.{ℕ, ◌+◌, ◌*◌, ◌≤◌, ◌<◌}
 use mathlib.Core.Path.{◌≡◌, refl, sym, ◌∙◌, ap, subst}
 use mathlib.Core.Bool.{Bool, true, false, not, cond, ◌||◌, true≢false}
 use mathlib.Core.List.{List, ◌++◌}
@@ -7,10 +7,10 @@ use native.Mathlib.Nat.{zero-add}
 use lib.Dec.{leb, ltb}
 use lib.Ieee.{Float, inf, lt, binary64, of_bits}
 use lib.ListN.{length, drop, replicate}
-use borrow.Author.Tests.{leb-true, leb-false, ltb-false, le-ltb, lt-ltb}
+use borrow.Author.Tests.{leb-false, ltb-false, lt-ltb}
 use Rattle.units.specs.Limits.{most_rows}
 use Rattle.text_fronts.specs.Front.{front}
-use Rattle.std.specs.Prelude.{Result, Err, Option, Some, None}
+use Rattle.std.specs.Prelude.{Result, Err}
 use Rattle.units.specs.declared.refusal.Refusal.{Refusal}
 use Rattle.units.specs.declared.refusal.Refusal.TheVariants.{TooManyRows, NoRoom, BadSum}
 use Rattle.units.specs.Refusals.{Verdict, passes, refuse_if, ◌▷◌, if_passes, answer as answer_of}
@@ -21,11 +21,11 @@ use Rattle.ledger_rows.specs.Scan.{Scan, EachHasStrand}
 use Rattle.ledger_rows.specs.Blocks.{need, energy_table, note_table}
 use Rattle.ledger_rows.specs.Trace.{answer, layout}
 use Rattle.ledger_row_choice.specs.declared.Bonds.{Bonds}
-use Rattle.ledger_fill.specs.Handed.{added_of, set_scan, bay_row, run_scan, Roomy, allowed}
+use Rattle.ledger_fill.specs.Handed.{added_of, set_scan, bay_row, run_scan, Roomy, capped}
 use Rattle.ledger_rows.proofs.SameStrands.{need_same}
 use Rattle.bay_scan_order.specs.Scan.{window}
 use Rattle.ledger_block.specs.Block.{over}
-use Rattle.run_room.specs.Room.{room_verdict, lent_verdict}
+use Rattle.run_room.specs.Room.{room_verdict}
 use Rattle.run_least_layout.specs.Run.{row_by_row}
 use Rattle.run_least_layout.proofs.Passed.{some_side}
 use Rattle.run_system.specs.Steps.{OnBoard, Ran}
@@ -43,16 +43,16 @@ pub past : (v w : Verdict) (z : Scan) (rows cols : ℕ) (kelvin : Float) {r : Re
 past v w z rows cols kelvin {r} {l₀} {l₁} {e₀} {e₁} {n₀} {n₁} p f =
     subst (λ (u : Verdict). Finished u z rows cols kelvin r l₀ l₁ e₀ e₁ n₀ n₁) (sym (ap (λ (u : Verdict). u ▷ w) p)) f
 
--- ---- the need as the code counts it
-allowed_room : (need energies notes : ℕ) → lent_verdict (allowed need) energies notes ≡ room_verdict need energies notes
-allowed_room need energies notes = by (leb need most_rows) refl
+-- ---- the need as the code caps it
+capped_room : (need energies notes : ℕ) → room_verdict (capped need) energies notes ≡ room_verdict need energies notes
+capped_room need energies notes = by (leb need most_rows) refl
   where
-    by : (b : Bool) → leb need most_rows ≡ b → lent_verdict (cond b (Some need) None) energies notes ≡ room_verdict need energies notes
-    by true e = sym (ap (λ (t : Bool). refuse_if t TooManyRows ▷ refuse_if (ltb energies need || ltb notes need) (NoRoom need)) (le-ltb most_rows need (leb-true need most_rows e)))
+    by : (b : Bool) → leb need most_rows ≡ b → room_verdict (cond b need (most_rows + 1)) energies notes ≡ room_verdict need energies notes
+    by true e = refl
     by false e = sym (ap (λ (t : Bool). refuse_if t TooManyRows ▷ refuse_if (ltb energies need || ltb notes need) (NoRoom need)) (lt-ltb most_rows need (leb-false need most_rows e)))
 
-pub room_counted : {x : Verdict} {n : Option ℕ} (need energies notes : ℕ) → n ≡ allowed need → x ≡ lent_verdict n energies notes → x ≡ room_verdict need energies notes
-room_counted need energies notes c e = e ∙ ap (λ (k : Option ℕ). lent_verdict k energies notes) c ∙ allowed_room need energies notes
+pub room_by_cap : {x : Verdict} {n : ℕ} (need energies notes : ℕ) → n ≡ capped need → x ≡ room_verdict n energies notes → x ≡ room_verdict need energies notes
+room_by_cap need energies notes c e = e ∙ ap (λ (k : ℕ). room_verdict k energies notes) c ∙ capped_room need energies notes
 
 -- what a passed test of the room tells
 pub record Fits (need energies notes : ℕ) : Type 0 where

@@ -3,26 +3,25 @@ use Prim.Native.Nat.{ℕ, ◌*◌, ◌<◌}
 use mathlib.Core.Path.{◌≡◌, sym, ◌∙◌, ap, subst}
 use mathlib.Core.List.{List}
 use lib.ListN.{length}
-use Rattle.std.specs.Prelude.{Option}
 use Rattle.std.proofs.lemmas.Result.{err_from_is_err_and}
 use Rattle.units.specs.Refusals.{Verdict}
 use Rattle.bay_system.specs.System.{System, system_of}
 use Rattle.bay_scan_order.specs.Scan.{window}
 use Rattle.ledger_rows.specs.Blocks.{need}
-use Rattle.ledger_fill.specs.Handed.{set_scan, allowed}
+use Rattle.ledger_fill.specs.Handed.{set_scan, capped}
 use Rattle.run_tables.specs.Tables.{site_table}
-use Rattle.run_room.specs.Room.{room_verdict, lent_verdict}
+use Rattle.run_room.specs.Room.{room_verdict}
 use Rattle.run_least_layout.specs.Run.{bonds_of, table_scan}
-use Rattle.run_sets.proofs.Finishing.{stop, finish, need_of, room_counted, some_window, roomy}
+use Rattle.run_sets.proofs.Finishing.{stop, finish, need_of, room_by_cap, some_window, roomy}
 use Rattle.run_sets.proofs.run_scan.Goals as goal
 
 -- what the rows that are counted are refused with is what the run's need is
-room : (s : System) (scan : List ℕ) (energies notes : ℕ) {w : ℕ} {n : Option ℕ} {v : Verdict} → w ≡ window s.sizes.rows s.sizes.cols → length scan ≡ s.sizes.rows * s.sizes.cols
-    → n ≡ allowed (need (set_scan w scan) (length scan)) → v ≡ lent_verdict n energies notes
+room : (s : System) (scan : List ℕ) (energies notes : ℕ) {w n : ℕ} {v : Verdict} → w ≡ window s.sizes.rows s.sizes.cols → length scan ≡ s.sizes.rows * s.sizes.cols
+    → n ≡ capped (need (set_scan w scan) (length scan)) → v ≡ room_verdict n energies notes
     → v ≡ room_verdict (need (table_scan s scan) (s.sizes.rows * s.sizes.cols)) energies notes
 room s scan energies notes {w} is long count e =
-    room_counted (need (table_scan s scan) (s.sizes.rows * s.sizes.cols)) energies notes
-    (count ∙ ap allowed (need_of s.sizes.rows s.sizes.cols w scan (site_table s) (bonds_of s) is long)) e
+    room_by_cap (need (table_scan s scan) (s.sizes.rows * s.sizes.cols)) energies notes
+    (count ∙ ap capped (need_of s.sizes.rows s.sizes.cols w scan (site_table s) (bonds_of s) is long)) e
 
 pub need-need-requires : goal.need-need-requires
 need-need-requires c =
