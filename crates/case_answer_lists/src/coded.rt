@@ -25,10 +25,8 @@ pub fn put_coded(out: &mut [u8], at: usize, word: &[u8], text: &[u8]) -> usize
     ensures { Put out.old at (word.now ++ coded text.now) result out.new }
 {
     let mut next = put_text(out, at, word);
-    let mut i = 0;
-    while i < text.len() {
-        next = put_byte(out, next, text[i]);
-        i += 1;
+    for &byte in text {
+        next = put_byte(out, next, byte);
     }
     next
 }

@@ -16,7 +16,7 @@ pub fn put_next_number(out: &mut [u8], at: usize, i: usize, n: u64) -> usize
     put_number(out, next, n)
 }
 
-// A float as the item at place i of a list.
+// A float as the item at place i of a list. One function lent the putting needs a contract of what that puts: no plainer.
 pub fn put_next_float(out: &mut [u8], at: usize, i: usize, x: f64) -> usize
     ensures { Put out.old at (item i (float_text x)) result out.new }
 {
@@ -27,15 +27,13 @@ pub fn put_next_float(out: &mut [u8], at: usize, i: usize, x: f64) -> usize
     put_float(out, comma, x)
 }
 
-// A word, and the list of a table's numbers.
+// A word, and the list of a table's numbers; one function for each type, since a usize is no `Into<u64>`.
 pub fn put_small_numbers(out: &mut [u8], at: usize, word: &[u8], table: &[u32]) -> usize
     ensures { Put out.old at (word.now ++ listed number_text 0 table.now) result out.new }
 {
     let mut next = put_text(out, at, word);
-    let mut i = 0;
-    while i < table.len() {
-        next = put_next_number(out, next, i, table[i] as u64);
-        i += 1;
+    for (i, &n) in table.iter().enumerate() {
+        next = put_next_number(out, next, i, n as u64);
     }
     next
 }
@@ -44,10 +42,8 @@ pub fn put_numbers(out: &mut [u8], at: usize, word: &[u8], table: &[usize]) -> u
     ensures { Put out.old at (word.now ++ listed number_text 0 table.now) result out.new }
 {
     let mut next = put_text(out, at, word);
-    let mut i = 0;
-    while i < table.len() {
-        next = put_next_number(out, next, i, table[i] as u64);
-        i += 1;
+    for (i, &n) in table.iter().enumerate() {
+        next = put_next_number(out, next, i, n as u64);
     }
     next
 }
@@ -56,10 +52,8 @@ pub fn put_long_numbers(out: &mut [u8], at: usize, word: &[u8], table: &[u64]) -
     ensures { Put out.old at (word.now ++ listed number_text 0 table.now) result out.new }
 {
     let mut next = put_text(out, at, word);
-    let mut i = 0;
-    while i < table.len() {
-        next = put_next_number(out, next, i, table[i]);
-        i += 1;
+    for (i, &n) in table.iter().enumerate() {
+        next = put_next_number(out, next, i, n);
     }
     next
 }
