@@ -1,6 +1,7 @@
 // A bay in a drawing, put into a lent text as far as it fits.
 //
-// Each function puts its part at the place `at`, leaves the rest of the text as it is, and gives back the next place.
+// Each function puts its part at the place `at`, leaves the rest of the text as it is, and gives back the next place: a writer struct
+// would hold a lent `&mut` slice, whose loan every contract would have to tell.
 #![tactic(auto)]
 
 ghost use Rattle.text_put.specs.Puts.{Put};
@@ -12,21 +13,22 @@ use plan_bay_names::name_of;
 use plan_name_drawing::put_label;
 use text_put::{chosen, put_form, put_text};
 
-// A bay at a place, with its mark and the name of its tile.
-pub fn put_bay(
-    names: &StrandNames<'_>,
-    across: u64,
-    down: u64,
-    tile: u32,
-    mark: u8,
-    out: &mut [u8],
-    at: usize,
-) -> usize
+// A bay of a drawing: how many pixels across and down it stands, its tile, 0 for none, and its mark.
+#[derive(Clone, Copy)]
+pub struct Bay {
+    pub across: u64,
+    pub down: u64,
+    pub tile: u32,
+    pub mark: u8,
+}
+
+// A bay at its place, with its mark and the name of its tile.
+pub fn put_bay(names: &StrandNames<'_>, bay: Bay, out: &mut [u8], at: usize) -> usize
     ensures { let n = strand_names_of names.now in
-        Put out.old at (bay_drawing n across down tile mark) result out.new }
+        Put out.old at (bay_drawing n bay.across bay.down bay.tile bay.mark) result out.new }
 {
-    let label = put_square(across, down, tile, mark, out, at);
-    let end = put_tile_label(names, tile, out, label);
+    let label = put_square(bay, out, at);
+    let end = put_tile_label(names, bay.tile, out, label);
     put_text(out, end, b"</g>\n")
 }
 
@@ -41,19 +43,19 @@ fn put_tile_label(names: &StrandNames<'_>, tile: u32, out: &mut [u8], at: usize)
     put_label(name_of(names, tile), out, at)
 }
 
-// The square of a bay at a place: filled where it holds a tile, its border by the bay's mark.
-fn put_square(across: u64, down: u64, tile: u32, mark: u8, out: &mut [u8], at: usize) -> usize
-    ensures { Put out.old at (square across down tile mark) result out.new }
+// The square of a bay at its place: filled where it holds a tile, its border by the bay's mark.
+fn put_square(bay: Bay, out: &mut [u8], at: usize) -> usize
+    ensures { Put out.old at (square bay.across bay.down bay.tile bay.mark) result out.new }
 {
     let fill = put_form(
         out,
         at,
         b"<g transform=\"translate($,@)\"><rect class=\"",
-        across,
-        down,
+        bay.across,
+        bay.down,
     );
-    let edge = put_text(out, fill, chosen(tile == 0, b"", b"tile "));
-    let asked = chosen(mark == 2, b"seed", b"restricted");
-    let size = put_text(out, edge, chosen(mark == 0, b"free", asked));
+    let edge = put_text(out, fill, chosen(bay.tile == 0, b"", b"tile "));
+    let asked = chosen(bay.mark == 2, b"seed", b"restricted");
+    let size = put_text(out, edge, chosen(bay.mark == 0, b"free", asked));
     put_text(out, size, b"\" width=\"72\" height=\"72\"/>")
 }

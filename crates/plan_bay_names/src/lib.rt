@@ -15,7 +15,7 @@ pub fn name_of<'a>(names: &StrandNames<'a>, tile: u32) -> &'a [u8]
     name_tiles::tile_name(names.names.present.len(), names, tile)
 }
 
-// The tile of a bay, 0 past the layout's end.
+// The tile of a bay, 0 past the layout's end: no Option, since a bay that the layout leaves out is shown as an empty one.
 pub fn tile_at(layout: &[u32], bay: usize) -> u32
     ensures { result ≡ get_or layout.now bay 0 }
 {

@@ -1,5 +1,5 @@
 -- Laws of a walk over the bays of a row and over the rows of a drawing. Assumes nothing.
-use Prim.Native.Nat.{ℕ, suc, ◌+◌, ◌-◌, ◌*◌, ◌≤◌, ◌<◌}
+use Prim.Native.Nat.{ℕ, suc, ◌+◌, ◌-◌, ◌*◌, ◌≤◌, ◌<◌, min}
 use mathlib.Core.List.{List, [], ◌++◌}
 use mathlib.Core.Path.{◌≡◌, refl, ◌∙◌, ap}
 use native.Mathlib.Nat.{add-zero, add_assoc}
@@ -9,7 +9,7 @@ use lib.Seq.{drop-drop, get_or-drop}
 use Rattle.units.specs.Limits.{most_side}
 use Rattle.name_strands.specs.Names.{StrandNames}
 use Rattle.text_put.specs.Puts.{Put}
-use Rattle.text_put.proofs.Putting.{Ending, ending_starts, ending_goes_on, ending_ends}
+use Rattle.text_put.proofs.Putting.{Ending, starts_anywhere, ending_goes_on, ending_ends}
 use Rattle.plan_bay_drawing.specs.Squares.{bay_drawing}
 use Rattle.plan_layout_svg.specs.Drawing.{row_drawing, rows_drawing}
 
@@ -43,11 +43,11 @@ module _ (n : StrandNames) (layout marks : List ℕ) where
       pub within : column ≤ columns
 
     module _ (columns : ℕ) (old : List ℕ) (at : ℕ) where
-      pub row_starts : at ≤ length old → Row columns old at old at 0
+      pub row_starts : {next : ℕ} → next ≡ min at (length old) → Row columns old at old next 0
       row_starts h =
           let here : first + 0 ≡ first = omega arith in
           let all : columns - 0 ≡ columns = omega arith in
-          record { ending = rw (here, all) (ending_starts (row_drawing n row 0 (drop first layout) (drop first marks) columns) h); within = omega arith }
+          record { ending = rw (here, all) (starts_anywhere (row_drawing n row 0 (drop first layout) (drop first marks) columns) h); within = omega arith }
 
       module _ (out : List ℕ) (next column : ℕ) (s : Row columns old at out next column) where
         pub row_goes_on : column < columns → {across down tile mark : ℕ} → across ≡ 24 + 80 * column → down ≡ 64 + 80 * row
@@ -84,10 +84,10 @@ module _ (n : StrandNames) (layout marks : List ℕ) where
       pub few : bay ≤ most_side * row
 
     module _ (rows : ℕ) (old : List ℕ) (at : ℕ) where
-      pub grid_starts : at ≤ length old → Grid rows old at old at 0 0
+      pub grid_starts : {next : ℕ} → next ≡ min at (length old) → Grid rows old at old next 0 0
       grid_starts h =
           let all : rows - 0 ≡ rows = omega arith in
-          record { ending = rw all (ending_starts (rows_drawing n columns 0 layout marks rows) h); within = omega arith; few = omega arith }
+          record { ending = rw all (starts_anywhere (rows_drawing n columns 0 layout marks rows) h); within = omega arith; few = omega arith }
 
       module _ (out : List ℕ) (next bay row : ℕ) (s : Grid rows old at out next bay row) where
         pub grid_goes_on : row < rows → columns ≤ most_side → {r : ℕ} {out' : List ℕ} → Put out next (row_drawing n row 0 (drop bay layout) (drop bay marks) columns) r out'

@@ -1,4 +1,4 @@
-// What stands before and after the bays in a drawing.
+// What stands before and after the bays in a drawing, put at a place of a text as in lib.rt.
 ghost use Rattle.text_put.specs.Puts.{Put};
 ghost use Rattle.plan_layout_svg.specs.Frame.{style, head, foot};
 

@@ -1,6 +1,7 @@
 // A name in the middle of a square, put into a lent text as far as it fits.
 //
-// Each `put_` function puts its part at the place `at`, leaves the rest of the text as it is, and gives back the next place.
+// Each `put_` function puts its part at the place `at`, leaves the rest of the text as it is, and gives back the next place: a writer struct
+// would hold a lent `&mut` slice, whose loan every contract would have to tell.
 #![tactic(auto)]
 
 ghost use Rattle.std.specs.Prelude.{◌≡◌};

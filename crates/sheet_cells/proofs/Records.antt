@@ -44,9 +44,6 @@ module _ (text : List ℕ) (at : ℕ) where
     same : f ≡ places (field_at text at)
     same = (answer_sound (field_at text at) f e).1
 
-    pub bounds : at ≤ length text → (f.from ≤ f.to) × (f.to ≤ length text)
-    bounds h = let w = field_at_within text at h in rw same (w.ordered, let on = w.onward in let end = w.ends in omega arith)
-
     raw_is : take (f.to - f.from) (drop f.from text) ≡ raw (drop at text)
     raw_is = rw same (raw_at text at)
 

@@ -7,7 +7,8 @@ use sheet_fields::{field_at, goes_on};
 use sheet_number_lists::count_numbers;
 use units::Refusal;
 
-// A field of a sheet with a list for its content: whether its record goes on, the place after it, and how many numbers it has.
+// A field of a sheet with a list for its content: whether its record goes on, the place after it, and how many numbers it has. All
+// three count always, so this is no Option.
 #[derive(Clone, Copy)]
 struct Cell {
     more: bool,
@@ -53,7 +54,6 @@ pub(crate) fn check_record(
 
 // The field at a place, where it has a list.
 fn cell_at(text: &[u8], at: usize) -> Option<Cell>
-    requires { at ≤ length text.now }
     ensures { result ≡ cell_at text.now at }
 {
     let field = field_at(text, at)?;

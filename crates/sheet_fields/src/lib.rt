@@ -4,12 +4,12 @@
 // alone, or with the text. Nothing is copied: a field is told by its places in the caller's own text.
 #![tactic(auto)]
 
-ghost use Rattle.std.specs.Prelude.{◌≡◌, cond, ◌+◌, ◌-◌, ◌<◌, ◌≤◌, eqb, ltb, length, take, drop};
+ghost use Rattle.std.specs.Prelude.{◌≡◌, cond, ◌+◌, ◌-◌, ◌<◌, eqb, ltb, length, take, drop};
 ghost use Rattle.sheet_fields.specs.Fields.{is_plain, plain_length, quoted_length, ending_of, bare_field, quoted_field, moved, field_at};
 ghost use Rattle.sheet_fields.specs.Scan.{quoted_step};
 ghost use Rattle.sheet_fields.specs.Answers.{ending_answer, field_answer, places};
 
-use text_fronts::byte_at;
+use text_fronts::{byte_at, front};
 
 // A field of a sheet by its line and its number in it, both from 1.
 #[derive(Clone, Copy, PartialEq, Eq)]
@@ -18,14 +18,16 @@ pub struct Place {
     pub field: usize,
 }
 
-// How a sound field ends: whether more fields of its record come, and how many bytes the end takes.
+// How a sound field ends: whether more fields of its record come, and how many bytes the end takes. Both count always, so this is
+// no Option.
 #[derive(Clone, Copy)]
 struct Ending {
     more: bool,
     width: usize,
 }
 
-// A field: whether its record goes on, its content from one place to another, and the place after it.
+// A field: whether its record goes on, its content from one place to another, and the place after it. The places count whether it
+// goes on or not, so this is no Option.
 #[derive(Clone, Copy)]
 pub struct Field {
     pub more: bool,
@@ -35,12 +37,11 @@ pub struct Field {
 }
 
 impl Field {
-    // Its bytes as they stand in the text, quotes within its quotes doubled.
+    // Its bytes as they stand in the text, quotes within its quotes doubled, and none of them past the text's end.
     pub fn raw<'a>(&self, text: &'a [u8]) -> &'a [u8]
-        requires { (self.now.from ≤ self.now.to) × (self.now.to ≤ length text.now) }
         ensures { result.now ≡ take (self.now.to - self.now.from) (drop self.now.from text.now) }
     {
-        &text[self.from..self.to]
+        front(rest(text, self.from), self.to.saturating_sub(self.from))
     }
 }
 
@@ -152,7 +153,8 @@ fn is_plain(b: u8) -> bool
     !matches!(b, b',' | b'"' | b'\r' | b'\n')
 }
 
-// How many bytes stand before the quote that closes a field. Two quotes side by side close nothing.
+// How many bytes stand before the quote that closes a field. Two quotes side by side close nothing. A `for` over the bytes would be
+// no plainer: turns pass one byte or two, so it needs a flag for the first of two quotes.
 fn quoted_length(text: &[u8]) -> usize
     ensures { result ≡ quoted_length text.now }
 {

@@ -48,7 +48,8 @@ fn read_part(file: &mut impl Read, room: &mut [u8]) -> Option<usize>
     part_of(got, room)
 }
 
-// Reads a file to its end, and answers how many bytes it has.
+// Reads a file to its end, and answers how many bytes it has. There is nothing for a `for` to count: a turn goes on by what a read
+// gives.
 fn read_open(file: &mut impl Read, room: &mut [u8]) -> Result<usize, Unread>
     ensures { LeavesRoom room.new result }
 {

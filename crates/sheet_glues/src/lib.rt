@@ -1,4 +1,6 @@
 // From a strands' sheet and a scaffold's sheet to glue numbers: the names of both are laid one after the other and registered.
+//
+// The tables stay parameters of their own: a struct of them would hold lent `&mut` slices, whose loans every contract would have to tell.
 #![tactic(auto)]
 
 ghost use Rattle.std.specs.Prelude.{◌+◌, ◌-◌, ◌*◌, ◌≤◌, ◌<◌, length, take, set};

@@ -14,7 +14,7 @@ use Rattle.sheet_fields.specs.declared.Field.{Field}
 use Rattle.sheet_fields.specs.Runs.{contents, past, bytes_in}
 use Rattle.sheet_fields.proofs.Bounds.{raw_at}
 use Rattle.sheet_fields.proofs.Quotes.{content_blank}
-use Rattle.sheet_fields.proofs.Runs.{place_within, past_at}
+use Rattle.sheet_fields.proofs.Runs.{past_at}
 use Rattle.sheet_keys.specs.SheetKeys.{is_blank, fits, key_fault, told, keys_from, keys_fault}
 
 -- ---- one record
@@ -41,11 +41,10 @@ module _ (text : List ℕ) (at : ℕ) where
 -- the first i records are keys: the fault of those that are left is the table's
 pub record InKeys (records : ℕ) (text : List ℕ) (next i : ℕ) : Type 0 where
   pub within : i ≤ records
-  pub inside : next ≤ length text
   pub left : keys_fault records text ≡ keys_from (i + 1) (records - i) (drop next text)
 
 pub keys_start : (records : ℕ) (text : List ℕ) → InKeys records text 0 0
-keys_start records text = record { within = omega arith; inside = omega arith; left = rw (sub-zero records) refl }
+keys_start records text = record { within = omega arith; left = rw (sub-zero records) refl }
 
 module _ (records : ℕ) (text : List ℕ) (next i : ℕ) (s : InKeys records text next i) where
   pub keys_end : records ≤ i → Ok tt ≡ keys_fault records text
@@ -64,6 +63,5 @@ module _ (records : ℕ) (text : List ℕ) (next i : ℕ) (s : InKeys records te
     keys_go_on none after f =
         record {
           within = omega arith;
-          inside = place_within text next 5 after s.inside f;
           left = step ∙ rw (← none, f, past_at 5 text next);
         }

@@ -24,7 +24,6 @@ pub fn check_keys(sheet: &[u8], records: usize) -> Result<(), Place>
 
 // The number of the field that shows the record at a place to be no key.
 fn key_fault(sheet: &[u8], at: usize) -> Option<usize>
-    requires { at ≤ length sheet.now }
     ensures { result ≡ key_fault (contents 5 (drop at sheet.now)) }
 {
     let nameless = is_blank(sheet, at);
@@ -56,7 +55,6 @@ fn fault_of(nameless: bool, first_fits: bool, second_fits: bool) -> Option<usize
 // Whether the field at a place is a decimal where numbers are to be given, and blank where none are.
 #[tactic(auto, unfolding(crate::specs::SheetKeys::fits))]
 fn fits(sheet: &[u8], at: usize, numbers: bool) -> bool
-    requires { at ≤ length sheet.now }
     ensures { result ≡ fits numbers (content (drop at sheet.now)) }
 {
     if numbers {
@@ -68,7 +66,6 @@ fn fits(sheet: &[u8], at: usize, numbers: bool) -> bool
 
 // Whether the field at a place has no bytes.
 fn is_blank(sheet: &[u8], at: usize) -> bool
-    requires { at ≤ length sheet.now }
     ensures { result ≡ is_blank (content (drop at sheet.now)) }
 {
     field_or_empty(sheet, at).raw(sheet).is_empty()

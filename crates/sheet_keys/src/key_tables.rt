@@ -1,4 +1,6 @@
 // The tables that energy keys are taken from.
+//
+// They stay parameters of their own: a struct of them would hold lent `&mut` slices, whose loans every contract would have to tell.
 ghost use Rattle.std.specs.Prelude.{◌≡◌, map, ◌*◌, ◌≤◌, ◌<◌, length};
 ghost use Rattle.std.proofs.lemmas.List.Edits.{sets};
 ghost use Rattle.sheet_records.specs.Tables.{columns};

@@ -68,9 +68,6 @@ module _ (count : ℕ) (text : List ℕ) (at : ℕ) (out offsets present : List 
   fields_start = record { within = omega arith; place = omega arith; done = append_none out offsets present start b }
 
   module _ (stop : Laid) (next i : ℕ) (out' offsets' present' : List ℕ) (s : InFields count text at out offsets present start stop next i out' offsets' present') where
-    pub fields_inside : next ≤ length text
-    fields_inside = place_within text at i next h s.place
-
     pub fields_count : stop.entries ≡ start.entries + i
     fields_count = let k = s.done.counted in let l = length_contents i (drop at text) in omega arith
 

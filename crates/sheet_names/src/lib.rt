@@ -1,4 +1,7 @@
 // The contents of a sheet's fields as entries of one text: names that are laid one after the other, with the offsets between them.
+//
+// The tables stay parameters of their own, a text beside the place up to which it is written: a struct of them would hold lent `&mut`
+// slices, whose loans every contract would have to tell.
 #![tactic(auto)]
 
 ghost use Rattle.std.specs.Prelude.{◌≡◌, [], ◌∷◌, ◌+◌, ◌*◌, ◌≤◌, ◌<◌, length, drop};
@@ -136,13 +139,13 @@ fn flag(raw: &[u8]) -> u8
 
 // Puts the content of the field at a place, as far as it fits, and answers the next place.
 pub fn put_content(text: &[u8], at: usize, out: &mut [u8], next: usize) -> usize
-    requires { at ≤ length text.now }
     ensures { Put out.old next (content (drop at text.now)) result out.new }
 {
     put_unquoted(field_or_empty(text, at).raw(text), out, next)
 }
 
-// Puts a content byte by byte, one quote for two.
+// Puts a content byte by byte, one quote for two. A `for` over the bytes would be no plainer: turns pass one byte or two, so it needs a
+// flag for the first of two quotes.
 fn put_unquoted(raw: &[u8], out: &mut [u8], at: usize) -> usize
     ensures { Put out.old at (unquoted raw.now) result out.new }
 {

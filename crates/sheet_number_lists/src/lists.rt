@@ -1,4 +1,6 @@
 // The words of a content one after the other: counted, and put into a lent slice.
+//
+// What puts answers the next place: a writer struct would hold a lent `&mut` slice, whose loan every contract would have to tell.
 ghost use Rattle.std.specs.Prelude.{◌≡◌, [], ◌∷◌};
 ghost use Rattle.text_put.specs.Puts.{Put};
 ghost use Rattle.sheet_number_lists.specs.NumberLists.{list_in};

@@ -8,19 +8,18 @@ use lib.ListN.{length, drop, set, length-set}
 use lib.Seq.{sets}
 use Rattle.sheet_fields.specs.Fields.{content}
 use Rattle.sheet_fields.specs.Runs.{contents, past, bytes_in}
-use Rattle.sheet_fields.proofs.Runs.{place_within, past_at, past_add}
+use Rattle.sheet_fields.proofs.Runs.{past_at, past_add}
 use Rattle.sheet_records.specs.Tables.{columns}
 
 -- the values of the first i records have been put: those of the others end the table
 pub record InPairs {A : Type 0} (value : List ℕ → A) (records width from : ℕ) (text : List ℕ) (old out : List A) (next i : ℕ) : Type 0 where
   pub within : i ≤ records
-  pub inside : next ≤ length text
   pub long : length out ≡ length old
   pub put : sets out (i * 2) (map value (columns (records - i) width from 2 (drop next text))) ≡ sets old 0 (map value (columns records width from 2 text))
 
 module _ {A : Type 0} (value : List ℕ → A) (records width from : ℕ) (text : List ℕ) (old : List A) where
   pub pairs_start : InPairs value records width from text old old 0 0
-  pairs_start = record { within = omega arith; inside = omega arith; long = refl; put = rw (sub-zero records) refl }
+  pairs_start = record { within = omega arith; long = refl; put = rw (sub-zero records) refl }
 
   module _ (out : List A) (next i : ℕ) (s : InPairs value records width from text old out next i) where
     pub pairs_end : records ≤ i → out ≡ sets old 0 (map value (columns records width from 2 text))
@@ -42,7 +41,6 @@ module _ {A : Type 0} (value : List ℕ → A) (records width from : ℕ) (text 
           let two : (i + 1) * 2 ≡ suc (suc (i * 2)) = omega arith in
           record {
             within = omega arith;
-            inside = place_within text next width after s.inside g;
             long = simp length-set s.long;
             put = rw (p, q, one, two) (rw split at s.put);
           }

@@ -11,7 +11,7 @@ use lib.ListN.{length, drop, set, length-set}
 use lib.Seq.{sets}
 use Rattle.sheet_fields.specs.Fields.{content}
 use Rattle.sheet_fields.specs.Runs.{contents, bytes_in}
-use Rattle.sheet_fields.proofs.Runs.{place_within, past_at}
+use Rattle.sheet_fields.proofs.Runs.{past_at}
 use Rattle.sheet_records.specs.Tables.{columns}
 use Rattle.sheet_numbers.specs.Faults.{first_fault, fault_or}
 
@@ -39,20 +39,15 @@ module _ {A : Type 0} (sound : List ℕ → Bool) (value : List ℕ → A) (reco
   -- the first i fields of the column have been read: what is left of it ends both the table and the search for a fault
   pub record InColumn (old out : List A) (fault : Option ℕ) (next i : ℕ) : Type 0 where
     pub within : i ≤ records
-    pub inside : next ≤ length text
     pub long : length out ≡ length old
     pub found : kept fault (first_fault (i + 1) (map sound (fields (records - i) next))) ≡ first_fault 1 (map sound (columns records width column 1 text))
     pub put : sets out i (map value (fields (records - i) next)) ≡ sets old 0 (map value (columns records width column 1 text))
 
   module _ (old : List A) where
     pub column_starts : InColumn old old None 0 0
-    column_starts = record { within = omega arith; inside = omega arith; long = refl; found = rw (sub-zero records) refl; put = rw (sub-zero records) refl }
+    column_starts = record { within = omega arith; long = refl; found = rw (sub-zero records) refl; put = rw (sub-zero records) refl }
 
     module _ (out : List A) (fault : Option ℕ) (next i : ℕ) (s : InColumn old out fault next i) where
-      -- the column's field stands in the text
-      pub field_inside : (first : ℕ) → first ≡ next + bytes_in column (drop next text) → first ≤ length text
-      field_inside first e = place_within text next column first s.inside e
-
       module _ (k : records ≤ i) where
         none : records - i ≡ 0
         none = omega arith
@@ -79,7 +74,6 @@ module _ {A : Type 0} (sound : List ℕ → Bool) (value : List ℕ → A) (reco
         column_goes_on v p b q now g =
             record {
               within = omega arith;
-              inside = place_within text next width after s.inside f;
               long = length-set out i v ∙ s.long;
               found = rw (g, q) (first_of_lem fault i (sound here) (map sound (fields (records - (i + 1)) after))) ∙ rw split at s.found;
               put = rw p (ap (λ (n : ℕ). sets (set out i (value here)) n (map value (fields (records - (i + 1)) after))) (add-one i) ∙ rw split at s.put);

@@ -8,7 +8,6 @@ use sheet_number_lists::plain_number;
 
 // Reads the field at a place: a quote is no part of a number, so its bytes are read as they stand.
 pub fn count_at(text: &[u8], at: usize) -> Option<usize>
-    requires { at ≤ length text.now }
     ensures { result ≡ count_of (content (drop at text.now)) }
 {
     count_of(field_or_empty(text, at).raw(text))

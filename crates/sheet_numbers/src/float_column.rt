@@ -58,7 +58,6 @@ fn fault_or(fault: Option<usize>, sound: bool, line: usize) -> Option<usize>
 
 // Reads the field at a place as a decimal, no blank.
 pub fn decimal_at(text: &[u8], at: usize) -> Option<f64>
-    requires { at ≤ length text.now }
     ensures { result ≡ read_as Decimals (content (drop at text.now)) }
 {
     float_at(text, at, Kind::Decimals)
@@ -66,7 +65,6 @@ pub fn decimal_at(text: &[u8], at: usize) -> Option<f64>
 
 // Reads the field at a place: a quote is no part of a number, so its bytes are read as they stand.
 fn float_at(text: &[u8], at: usize, kind: Kind) -> Option<f64>
-    requires { at ≤ length text.now }
     ensures { result ≡ read_as kind (content (drop at text.now)) }
 {
     read_as(kind, field_or_empty(text, at).raw(text))

@@ -35,6 +35,12 @@ module _ (width most : ℕ) (text : List ℕ) (next records : ℕ) (s : InTable 
   pub table_ends : length text ≤ next → sound records ≡ table_check width most text
   table_ends k = sym (s.left ∙ over width records (most - records) (drop next text) (let l = length-drop next text in omega arith))
 
+  -- after the last turn as many records were passed as are allowed
+  pub table_full : most ≤ records → length text ≤ next → sound most ≡ table_check width most text
+  table_full k e =
+      let in_table = s.within in
+      let same : most ≡ records = omega arith in ap sound same ∙ table_ends e
+
   module _ (some : next < length text) where
     abbrev here : List ℕ
     here = drop next text
@@ -42,12 +48,18 @@ module _ (width most : ℕ) (text : List ℕ) (next records : ℕ) (s : InTable 
     bytes : eqb (length here) 0 ≡ false
     bytes = ne_eqb (length here) 0 (let l = length-drop next text in omega arith)
 
-    pub table_too_long : most < records + 1 → Err (place (records + 1) 1) ≡ table_answer (table_check width most text)
+    pub table_too_long : most ≤ records → Err (place (most + 1) 1) ≡ table_answer (table_check width most text)
     unfolding table_from
     table_too_long k =
-        let none : most - records ≡ 0 = omega arith in fault_answered records 1 ∙ ap table_answer (sym (s.left ∙ rw (none, bytes)))
+        let in_table = s.within in
+        let same : most ≡ records = omega arith in
+        let none : most - records ≡ 0 = omega arith in
+        ap (λ (n : ℕ). Err (place (n + 1) 1)) same ∙ fault_answered records 1 ∙ ap table_answer (sym (s.left ∙ rw (none, bytes)))
 
-    module _ (room : records + 1 ≤ most) where
+    module _ (more : records < most) where
+      room : records + 1 ≤ most
+      room = omega arith
+
       step : table_check width most text
           ≡ cond (eqb (record_fault is_sound 1 width here) 0) (table_from width (records + 1) (most - (records + 1)) (past width here)) (faulty (records + 1) (record_fault is_sound 1 width here))
       unfolding table_from

@@ -15,16 +15,19 @@ pub fn check_table(text: &[u8], width: usize, most: usize) -> Result<usize, Plac
     ensures { result ≡ table_answer (table_check width most text.now) }
 {
     let mut next = 0;
-    let mut records = 0;
-    while next < text.len() {
-        let line = records + 1;
-        if most < line {
-            return Err(Place { line, field: 1 });
+    for records in 0..most {
+        if text.len() <= next {
+            return Ok(records);
         }
-        next = check_record(text, next, line, width)?;
-        records = line;
+        next = check_record(text, next, records + 1, width)?;
     }
-    Ok(records)
+    if next < text.len() {
+        return Err(Place {
+            line: most + 1,
+            field: 1,
+        });
+    }
+    Ok(most)
 }
 
 // The place after the record at a place, which is a line of its sheet, or the place of its first fault.

@@ -1,6 +1,7 @@
 // A sheet written from the lists of a grid's bays into a lent text, as far as it fits; and how many bytes it takes.
 //
-// Each function here that puts a part puts it at the place `at`, leaves the rest of the text as it is, and answers the next place.
+// Each function here that puts a part puts it at the place `at`, leaves the rest of the text as it is, and answers the next place: a
+// writer struct would hold a lent `&mut` slice, whose loan every contract would have to tell.
 #![tactic(auto)]
 
 ghost use Rattle.std.specs.Prelude.{◌≡◌, true, ◌+◌, ◌*◌, ◌^◌, ◌<◌, ◌≤◌, length};

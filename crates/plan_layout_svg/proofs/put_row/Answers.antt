@@ -6,11 +6,11 @@ use Rattle.plan_layout_svg.proofs.put_row.Goals as goal
 
 pub loop-col-init : goal.loop-col-init
 loop-col-init c = let a = c.args in
-    row_starts (strand_names_of a.names.now) a.layout.now a.marks.now a.row a.first a.cols a.out.now a.at c.requires.at_in_bounds
+    row_starts (strand_names_of a.shown.now.names) a.shown.now.layout.now a.shown.now.marks.now a.row a.first a.shown.now.cols a.out.now a.at c.min-next.ensures
 
 pub loop-col-preserved : goal.loop-col-preserved
 loop-col-preserved c = let a = c.args in
-    row_goes_on (strand_names_of a.names.now) a.layout.now a.marks.now a.row a.first a.cols a.out.now a.at c.loop-col.out c.loop-col.next c.loop-col.col c.loop-col.invariant
+    row_goes_on (strand_names_of a.shown.now.names) a.shown.now.layout.now a.shown.now.marks.now a.row a.first a.shown.now.cols a.out.now a.at c.loop-col.out c.loop-col.next c.loop-col.col c.loop-col.invariant
     c.loop-col-test.true refl refl c.tile_at.ensures c.mark_at.ensures c.put_bay-next.ensures
 
 pub shape_of-out : goal.shape_of-out
@@ -18,4 +18,4 @@ shape_of-out c = c.loop-col.invariant.ending.long
 
 pub returns : goal.returns
 returns c = let a = c.args in
-    row_ends (strand_names_of a.names.now) a.layout.now a.marks.now a.row a.first a.cols a.out.now a.at c.loop-col.out c.loop-col.next c.loop-col.col c.loop-col.invariant c.loop-col-test.false
+    row_ends (strand_names_of a.shown.now.names) a.shown.now.layout.now a.shown.now.marks.now a.row a.first a.shown.now.cols a.out.now a.at c.loop-col.out c.loop-col.next c.loop-col.col c.loop-col.invariant c.loop-col-test.false

@@ -5,4 +5,4 @@ use Rattle.plan_layout_svg.proofs.put_row.Given as goal
 
 abbrev pub invariant-loop-col : goal.invariant-loop-col
 invariant-loop-col l =
-    Row (strand_names_of l.names) l.layout l.marks l.row l.first l.cols l.initial.out l.at l.out l.next l.col
+    Row (strand_names_of l.shown.names) l.shown.layout.now l.shown.marks.now l.row l.first l.shown.cols l.initial.out l.at l.out l.next l.col

@@ -5,4 +5,4 @@ use Rattle.plan_layout_svg.proofs.put_rows.Given as goal
 
 abbrev pub invariant-loop-row : goal.invariant-loop-row
 invariant-loop-row l =
-    Grid (strand_names_of l.names) l.layout l.marks l.cols l.rows l.initial.out l.at l.out l.next l.bay l.row
+    Grid (strand_names_of l.shown.names) l.shown.layout.now l.shown.marks.now l.shown.cols l.rows l.initial.out l.at l.out l.next l.bay l.row

@@ -1,6 +1,6 @@
 -- `plan_layout_svg::put_svg` meets its contract. Assumes nothing.
 use Rattle.name_strands.specs.Names.{strand_names_of}
-use Rattle.text_put.proofs.Putting.{put_as, then_put, put_within}
+use Rattle.text_put.proofs.Putting.{put_as, then_put}
 use Rattle.plan_layout_svg.specs.Drawing.{rows_drawing}
 use Rattle.plan_layout_svg.proofs.Whole.{small, drawn, not_drawn}
 use Rattle.plan_layout_svg.proofs.put_svg.Goals as goal
@@ -10,12 +10,7 @@ returns-then-not-has_room c = let a = c.args in
     put_as (not_drawn a.rows a.cols c.has_room.ensures (strand_names_of a.names.now) a.layout.now a.marks.now a.energy c.if-not-has_room.true-raw) c.put_text.ensures
 
 pub put_rows-end-requires : goal.put_rows-end-requires
-put_rows-end-requires c =
-    record {
-      rows_le_most_side = (let a = c.args in
-          small a.rows a.cols c.has_room.ensures c.if-not-has_room.false-raw);
-      at_in_bounds = put_within c.put_head-first.ensures;
-    }
+put_rows-end-requires c = let a = c.args in small a.rows a.cols c.has_room.ensures c.if-not-has_room.false-raw
 
 pub returns : goal.returns
 returns c = let a = c.args in

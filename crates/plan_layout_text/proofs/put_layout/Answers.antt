@@ -14,9 +14,6 @@ pub loop-init : goal.loop-init
 loop-init c = let a = c.args in
     rw sub-zero (starts_anywhere (rows_text (strand_names_of a.names.now) c.widest_bay-width.result a.cols a.layout.now a.rows) c.min-next.ensures)
 
-pub put_row-next-requires : goal.put_row-next-requires
-put_row-next-requires c = c.loop.invariant.within
-
 pub loop-preserved : goal.loop-preserved
 loop-preserved c = let a = c.args in
     let left : 0 < a.rows - c.loop.counter = omega (arith, c.loop-test.true) in

@@ -7,5 +7,5 @@ use Rattle.plan_layout_text.proofs.put_row.Given as goal
 
 abbrev pub invariant-loop-left : goal.invariant-loop-left
 invariant-loop-left l =
-    let n = strand_names_of l.names in
-    Ending l.initial.out l.at (row_text n l.width (drop l.first l.layout) l.cols) (row_text n l.width (drop l.bay l.layout) l.left) l.out l.next
+    let n = strand_names_of l.shown.names in
+    Ending l.initial.out l.at (row_text n l.shown.width (drop l.first l.shown.layout.now) l.shown.cols) (row_text n l.shown.width (drop l.bay l.shown.layout.now) l.left) l.out l.next

@@ -1,13 +1,13 @@
 -- `plan_layout_text::put_spaces` meets its contract: each turn puts one space. Assumes nothing.
 use Prim.Native.Nat.{◌+◌, ◌-◌}
 use mathlib.Core.List.{[], ◌∷◌}
-use Rattle.text_put.proofs.Putting.{ending_starts, ending_goes_on, ending_ends}
+use Rattle.text_put.proofs.Putting.{starts_anywhere, ending_goes_on, ending_ends}
 use Rattle.plan_layout_text.specs.Grid.{spaces}
 use Rattle.plan_layout_text.proofs.Lines.{spaces_next, spaces_end}
 use Rattle.plan_layout_text.proofs.put_spaces.Goals as goal
 
 pub loop-init : goal.loop-init
-loop-init c = ending_starts (spaces (c.args.to - c.args.from)) c.requires
+loop-init c = starts_anywhere (spaces (c.args.to - c.args.from)) c.min-next.ensures
 
 pub loop-preserved : goal.loop-preserved
 loop-preserved c = let a = c.args in

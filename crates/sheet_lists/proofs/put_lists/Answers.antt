@@ -2,7 +2,6 @@
 use mathlib.Core.Path.{◌∙◌, sym}
 use native.Mathlib.Omega.{arith}
 use lib.ListN.{length-set}
-use Rattle.sheet_fields.proofs.Bounds.{field_at_within}
 use Rattle.sheet_lists.proofs.Filling.{filling_starts, filling_goes_on, offsets_end, tiles_end}
 use Rattle.sheet_lists.proofs.put_lists.Goals as goal
 
@@ -12,10 +11,6 @@ loop-bay-init c = let a = c.args in
 
 pub bounds-offsets-bay : goal.bounds-offsets-bay
 bounds-offsets-bay c = let long = c.loop-bay.invariant.long in omega arith
-
-pub raw-requires : goal.raw-requires
-raw-requires c = let w = field_at_within c.args.text.now c.loop-bay.next c.loop-bay.invariant.inside in
-    rw c.field_or_empty-field.ensures (w.ordered, let on = w.onward in let end = w.ends in omega arith)
 
 pub loop-bay-preserved : goal.loop-bay-preserved
 loop-bay-preserved c = let a = c.args in

@@ -1,13 +1,7 @@
 -- `sheet_names::put_content` meets its contract. Assumes nothing.
-use native.Mathlib.Omega.{arith}
 use Rattle.text_put.proofs.Putting.{put_as}
-use Rattle.sheet_fields.proofs.Bounds.{field_at_within}
 use Rattle.sheet_names.proofs.Filling.{content_at}
 use Rattle.sheet_names.proofs.put_content.Goals as goal
-
-pub raw-requires : goal.raw-requires
-raw-requires c = let w = field_at_within c.args.text.now c.args.at c.requires in
-    rw c.field_or_empty.ensures (w.ordered, let on = w.onward in let end = w.ends in omega arith)
 
 pub returns : goal.returns
 returns c = let a = c.args in

@@ -1,19 +1,12 @@
 -- `sheet_names::put_fields` meets its contract. The loop's invariant is `InFields`: the fields passed are appended. Assumes nothing.
 use native.Mathlib.Omega.{arith}
-use Rattle.sheet_fields.proofs.Bounds.{field_at_within}
 use Rattle.sheet_names.proofs.Appending.{appended_out, appended_offsets, appended_present}
-use Rattle.sheet_names.proofs.Filling.{fields_start, fields_inside, fields_count, fields_go_on, fields_end}
+use Rattle.sheet_names.proofs.Filling.{fields_start, fields_count, fields_go_on, fields_end}
 use Rattle.sheet_names.proofs.put_fields.Goals as goal
 
 pub loop-init : goal.loop-init
 loop-init c = let a = c.args in
     fields_start a.count a.text.now a.at a.out.now a.offsets.now a.present.now a.start c.requires.at_in_bounds c.requires.bytes_in_bounds
-
-pub raw-requires : goal.raw-requires
-raw-requires c = let a = c.args in
-    let s = c.loop in
-    let w = field_at_within a.text.now s.next (fields_inside a.count a.text.now a.at a.out.now a.offsets.now a.present.now a.start c.requires.at_in_bounds c.requires.bytes_in_bounds s.stop s.next s.counter s.out s.offsets s.present s.invariant) in
-    rw c.field_or_empty-field.ensures (w.ordered, let on = w.onward in let end = w.ends in omega arith)
 
 pub put_entry-stop-requires : goal.put_entry-stop-requires
 put_entry-stop-requires c = let a = c.args in

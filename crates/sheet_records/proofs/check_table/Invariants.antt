@@ -4,8 +4,8 @@ use Prim.Native.Nat.{◌-◌}
 use Rattle.sheet_records.proofs.Tables.{InTable}
 use Rattle.sheet_records.proofs.check_table.Given as goal
 
-abbrev pub invariant-loop-next : goal.invariant-loop-next
-invariant-loop-next l = InTable l.width l.most l.text l.next l.records
+abbrev pub invariant-loop-records : goal.invariant-loop-records
+invariant-loop-records l = InTable l.width l.most l.text l.next l.records
 
-abbrev pub decreases-loop-next : goal.decreases-loop-next
-decreases-loop-next l = l.most - l.records
+abbrev pub decreases-loop-records : goal.decreases-loop-records
+decreases-loop-records l = l.most - l.records

@@ -3,20 +3,12 @@
 use mathlib.Core.Path.{◌∙◌}
 use native.Mathlib.Omega.{arith}
 use lib.ListN.{length-set}
-use Rattle.sheet_fields.proofs.Runs.{place_within}
 use Rattle.sheet_numbers.proofs.QuotedNumbers.{count_there, count_value}
 use Rattle.sheet_seeds.proofs.Places.{places_start, places_go_on, places_put, places_fault}
 use Rattle.sheet_seeds.proofs.put_places.Goals as goal
 
 pub loop-i-init : goal.loop-i-init
 loop-i-init c = let a = c.args in places_start a.records a.sheet.now a.places.now
-
-pub count_at-row-requires : goal.count_at-row-requires
-count_at-row-requires c = c.loop-i.invariant.put.inside
-
-pub count_at-column-requires : goal.count_at-column-requires
-count_at-column-requires c = let a = c.args in
-    place_within a.sheet.now c.loop-i.next 1 c.place_after-second.result c.loop-i.invariant.put.inside c.place_after-second.ensures
 
 pub bounds-places-i : goal.bounds-places-i
 bounds-places-i c = let long = c.loop-i.invariant.put.long in omega arith

@@ -4,18 +4,13 @@ use Rattle.std.specs.Prelude.{Some, None}
 use Rattle.sheet_fields.specs.Fields.{field_at}
 use Rattle.sheet_fields.specs.Answers.{field_answer}
 use Rattle.sheet_number_lists.specs.Counts.{list_count}
-use Rattle.sheet_cells.proofs.Records.{cell_broken, bounds, cell_other, cell_found}
+use Rattle.sheet_cells.proofs.Records.{cell_broken, cell_other, cell_found}
 use Rattle.sheet_cells.proofs.cells.cell_at.Goals as goal
 
 pub returns-in_err-field : goal.returns-in_err-field
 returns-in_err-field c = let a = c.args in
     let none : None ≡ field_answer (field_at a.text.now a.at) = cc c.in_err-field.was in
     c.from_residual.ensures ∙ cell_broken a.text.now a.at none
-
-pub raw-requires : goal.raw-requires
-raw-requires c = let a = c.args in
-    let some : Some c.in_ok-field.field ≡ field_answer (field_at a.text.now a.at) = cc c.in_ok-field.was in
-    bounds a.text.now a.at c.in_ok-field.field some c.requires
 
 pub returns-in_err-count : goal.returns-in_err-count
 returns-in_err-count c = let a = c.args in

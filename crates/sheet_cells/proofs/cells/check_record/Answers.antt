@@ -11,9 +11,6 @@ returns-then-text-at c = let a = c.args in missing_record a.line a.columns a.tex
 pub loop-i-init : goal.loop-i-init
 loop-i-init c = let a = c.args in counting_starts a.line a.columns a.text.now a.at c.if-text-at.false
 
-pub cell_at-requires : goal.cell_at-requires
-cell_at-requires c = c.loop-i.invariant.inside
-
 pub returns-in_default : goal.returns-in_default
 returns-in_default c = let a = c.args in
     let s = c.loop-i in

@@ -6,9 +6,6 @@ use Rattle.sheet_keys.proofs.key_faults.check_keys.Goals as goal
 pub loop-i-init : goal.loop-i-init
 loop-i-init c = let a = c.args in keys_start a.records a.sheet.now
 
-pub key_fault-requires : goal.key_fault-requires
-key_fault-requires c = c.loop-i.invariant.inside
-
 pub returns-in-Some : goal.returns-in-Some
 returns-in-Some c = let a = c.args in
     let s = c.loop-i in

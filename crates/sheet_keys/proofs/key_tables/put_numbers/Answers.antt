@@ -4,21 +4,12 @@ use lib.Ieee.{of_bits, round}
 use Rattle.units.specs.Decimals.{decimal}
 use native.Mathlib.Omega.{arith}
 use lib.ListN.{length-set}
-use Rattle.sheet_fields.proofs.Runs.{place_within}
 use Rattle.sheet_numbers.proofs.Pairs.{pairs_start, pairs_go_on, pairs_end}
 use Rattle.sheet_keys.specs.SheetKeys.{number}
 use Rattle.sheet_keys.proofs.key_tables.put_numbers.Goals as goal
 
 pub loop-i-init : goal.loop-i-init
 loop-i-init c = let a = c.args in pairs_start number a.records 5 2 a.sheet.now a.numbers.now
-
-pub decimal_at-dg-requires : goal.decimal_at-dg-requires
-decimal_at-dg-requires c = let a = c.args in
-    place_within a.sheet.now c.loop-i.next 2 c.place_after-first.result c.loop-i.invariant.inside c.place_after-first.ensures
-
-pub decimal_at-ds-requires : goal.decimal_at-ds-requires
-decimal_at-ds-requires c = let a = c.args in
-    place_within a.sheet.now c.loop-i.next 3 c.place_after-second.result c.loop-i.invariant.inside c.place_after-second.ensures
 
 pub bounds-numbers-i-in-loop-i : goal.bounds-numbers-i-in-loop-i
 bounds-numbers-i-in-loop-i c = let long = c.loop-i.invariant.long in

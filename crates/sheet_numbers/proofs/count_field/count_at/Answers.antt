@@ -1,14 +1,8 @@
 -- `count_field::count_at` meets its contract. Assumes nothing.
 use mathlib.Core.Path.{◌∙◌, ap}
-use native.Mathlib.Omega.{arith}
-use Rattle.sheet_fields.proofs.Bounds.{field_at_within}
 use Rattle.sheet_numbers.specs.Counts.{count_of}
 use Rattle.sheet_numbers.proofs.QuotedNumbers.{count_read}
 use Rattle.sheet_numbers.proofs.count_field.count_at.Goals as goal
-
-pub raw-requires : goal.raw-requires
-raw-requires c = let w = field_at_within c.args.text.now c.args.at c.requires in
-    rw c.field_or_empty.ensures (w.ordered, let on = w.onward in let end = w.ends in omega arith)
 
 pub returns : goal.returns
 returns c = let a = c.args in

@@ -4,17 +4,12 @@ use mathlib.Core.Path.{refl, ◌∙◌}
 use lib.Ieee.{of_bits, round}
 use Rattle.units.specs.Decimals.{decimal}
 use Rattle.sheet_numbers.specs.Floats.{is_read, value_as}
-use Rattle.sheet_numbers.proofs.Walk.{column_starts, field_inside, column_goes_on, column_fault, column_put}
+use Rattle.sheet_numbers.proofs.Walk.{column_starts, column_goes_on, column_fault, column_put}
 use Rattle.sheet_numbers.proofs.float_column.put_floats.Goals as goal
 
 pub loop-i-init : goal.loop-i-init
 loop-i-init c = let a = c.args in
     column_starts (is_read a.kind) (value_as a.kind) a.records a.width a.column a.text.now a.out.now
-
-pub float_at-read-requires : goal.float_at-read-requires
-float_at-read-requires c = let a = c.args in
-    let s = c.loop-i in
-    field_inside (is_read a.kind) (value_as a.kind) a.records a.width a.column a.text.now a.out.now s.out s.fault s.next s.i s.invariant c.place_after-first.result c.place_after-first.ensures
 
 pub loop-i-preserved : goal.loop-i-preserved
 unfolding of_bits decimal round
