@@ -41,10 +41,7 @@ pub fn read_system(
 {
     let sizes = read_sizes(line)?;
     let lists = lists_into(line, strand_glues, scaffold, logs, seeds)?;
-    let matrices = matrices_into(line, sizes.glues, delta_g, entropy);
-    if !matrices.readable {
-        return None;
-    }
+    let matrices = matrices_into(line, sizes.glues, delta_g, entropy)?;
     Some(SystemRead {
         sizes,
         strand_glues: lists.strand_glues,
