@@ -16,6 +16,7 @@ pub fn list_into<T: Item>(value: &[u8], out: &mut [T]) -> Option<usize>
     }
     let mut at = 0;
     let mut n = 0;
+    // No `for`: a turn goes on from where the item before it ends, and the last one is the one that ends the value.
     loop {
         let end = item_end(value, at);
         if out.len() <= n {

@@ -13,6 +13,7 @@ pub fn text_into(value: &[u8], out: &mut [u8]) -> Option<usize>
 {
     let mut at = 0;
     let mut n = 0;
+    // No `for`: a sign is one byte or three, so each turn goes on from where the one before it ends.
     while at < value.len() {
         let end = sign_end(value, at);
         if out.len() <= n {

@@ -8,6 +8,7 @@ use case_answer_lines::{put_float, put_text, refused};
 use units::Refusal;
 
 // How far the answer goes that was put into a lent text from its start, or that the line's call is another library's.
+// An `Option` would be no plainer: the name says what no answer means.
 #[derive(Clone, Copy)]
 pub enum Reply {
     To(usize),

@@ -54,6 +54,7 @@ fn find_field(line: &[u8], key: &[u8]) -> Option<usize>
     ensures { FieldAt key.now line.now result }
 {
     let mut at = place_of(line, 0, b' ');
+    // No `for`: a turn goes on from where the word before it ends.
     while at < line.len() {
         let start = at + 1;
         let end = place_of(line, start, b' ');

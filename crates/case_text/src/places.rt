@@ -1,4 +1,5 @@
-// Where a line, a field or an item ends: a search for the byte that ends it.
+// Where a line, a field or an item ends: a search for the byte that ends it. What no byte ends is ended by its text, so there
+// always is a place, and an `Option` would be no plainer.
 ghost use Rattle.std.specs.Prelude.{◌≡◌};
 ghost use Rattle.case_text.specs.Places.{place_of, Onward};
 
