@@ -33,12 +33,7 @@ impl DnaNucleotideBase {
     pub fn index(self) -> usize
         ensures { result ≡ index_of self }
     {
-        match self {
-            DnaNucleotideBase::A => 0,
-            DnaNucleotideBase::T => 1,
-            DnaNucleotideBase::G => 2,
-            DnaNucleotideBase::C => 3,
-        }
+        self as usize
     }
 }
 

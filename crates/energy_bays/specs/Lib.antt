@@ -1,2 +1,3 @@
 pub mod Energies
+pub mod Neighbours
 pub mod ScanSum
