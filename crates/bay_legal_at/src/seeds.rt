@@ -12,7 +12,6 @@ fn last_seed(cols: usize, seeds: &[u32], bay: usize) -> Option<u32>
     ensures { result ≡ seed_at cols seeds.now bay }
 {
     let mut found = None;
-    // Not `chunks_exact(3)`, as in `bay_system`'s test of the seeds.
     for i in 0..seeds.len() / 3 {
         let row = seeds[3 * i] as usize;
         let col = seeds[3 * i + 1] as usize;

@@ -1,4 +1,4 @@
-// The set of one bay. docs/MAP.md names both functions, so they ask by clauses and take no narrower type than a system and a bay.
+// The set of one bay.
 ghost use Rattle.std.specs.Prelude.{◌≡◌, true, length};
 ghost use Rattle.sets.specs.Set.{word};
 ghost use Rattle.bay_system.specs.System.{system_of};

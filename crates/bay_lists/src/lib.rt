@@ -10,8 +10,6 @@ ghost use Rattle.bay_lists.specs.Lists.{lists, names, offsets_shaped, constraint
 use text_entries::offsets_fit;
 
 // Absent, or a list of strands for each bay: the list of bay i is what stands in `tiles` from offset i up to offset i + 1.
-// An enum of its own and no Option: both words are those of docs/DECISIONS.md. Offsets of any shape make one, since the shape is
-// what `check_given` tests; so the methods ask for it by a clause.
 #[derive(Clone, Copy)]
 pub enum Constraints<'a> {
     Absent,

@@ -35,7 +35,6 @@ fn check_seeds(z: Sizes, seeds: &[u32]) -> Result<(), Refusal>
     requires { length seeds.now % 3 ≡ 0 }
     ensures { result ≡ seeds_verdict z seeds.now }
 {
-    // Not `chunks_exact(3)`: tried, what the loop keeps got longer than the loop.
     for i in 0..seeds.len() / 3 {
         if !seed_fits(z, seeds[3 * i], seeds[3 * i + 1], seeds[3 * i + 2]) {
             return Err(Refusal::Seed(i));

@@ -33,7 +33,12 @@ impl DnaNucleotideBase {
     pub fn index(self) -> usize
         ensures { result ≡ index_of self }
     {
-        self as usize
+        match self {
+            DnaNucleotideBase::A => 0,
+            DnaNucleotideBase::T => 1,
+            DnaNucleotideBase::G => 2,
+            DnaNucleotideBase::C => 3,
+        }
     }
 }
 

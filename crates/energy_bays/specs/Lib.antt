@@ -1,3 +1,2 @@
 pub mod Energies
-pub mod Neighbours
 pub mod ScanSum

@@ -4,18 +4,10 @@
 ghost use Rattle.std.specs.Prelude.{◌≡◌};
 ghost use Rattle.bay_system.specs.System.{system_of};
 ghost use Rattle.energy_bays.specs.Energies.{bay_energy, edge_energy, is_bad};
-ghost use Rattle.energy_bays.specs.Neighbours.{is_north_south};
 
 use bay_bonds::{bond_ns, bond_we, bond_with_scaffold};
 use bay_glues::{log_of, scaffold_glue_at, strand_glues_of};
 use bay_system::System;
-
-// How two neighbours lie: the first north of the second, or west of it.
-#[derive(Clone, Copy, Debug, PartialEq, Eq)]
-pub enum Neighbours {
-    NorthSouth,
-    WestEast,
-}
 
 // The energy of a bay with a strand: 0.0 with strand 0, else the scaffold bond minus the strand's log concentration.
 pub fn site_beta_energy(system: &System<'_>, bay: usize, strand: usize) -> f64
@@ -29,24 +21,19 @@ pub fn site_beta_energy(system: &System<'_>, bay: usize, strand: usize) -> f64
     bond - log_of(system, strand)
 }
 
-// The energy of two neighbours: 0.0 where one is empty, else their bond.
-#[tactic(auto, unfolding(crate::specs::Energies::edge_energy))]
-pub fn edge_beta_between(
-    system: &System<'_>,
-    neighbours: Neighbours,
-    first: usize,
-    second: usize,
-) -> f64
-    ensures { result ≡ edge_energy (system_of system.now) (is_north_south neighbours) first second }
+// The energy of two neighbours, `first` north of `second` or west of it: 0.0 where one is empty, else their bond.
+pub fn edge_beta_between(system: &System<'_>, north_south: bool, first: usize, second: usize) -> f64
+    ensures { result ≡ edge_energy (system_of system.now) north_south first second }
 {
     if first == 0 || second == 0 {
         return 0.0;
     }
     let a = strand_glues_of(system, first);
     let b = strand_glues_of(system, second);
-    match neighbours {
-        Neighbours::NorthSouth => bond_ns(system, a, b),
-        Neighbours::WestEast => bond_we(system, a, b),
+    if north_south {
+        bond_ns(system, a, b)
+    } else {
+        bond_we(system, a, b)
     }
 }
 

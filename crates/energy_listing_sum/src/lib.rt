@@ -3,13 +3,12 @@
 
 ghost use Rattle.std.specs.Prelude.{◌≡◌, ◌%◌, eqb, length};
 ghost use Rattle.bay_system.specs.System.{system_of};
-ghost use Rattle.energy_bays.specs.Neighbours.{is_north_south};
 ghost use Rattle.energy_listing_sum.specs.Listing.{strand_at, with_edge, with_west, with_north, listing};
 
 use bay_system::System;
-use energy_bays::{Neighbours, edge_beta_between, site_beta_energy};
+use energy_bays::{edge_beta_between, site_beta_energy};
 
-// The strand on a bay, 0 behind the layout's end: strand 0 is an empty bay already, so no Option.
+// The strand on a bay, 0 behind the layout's end.
 fn strand_at(layout: &[u32], bay: usize) -> usize
     ensures { result ≡ strand_at layout.now bay }
 {
@@ -26,20 +25,20 @@ fn in_first_column(cols: usize, bay: usize) -> bool
     bay % cols == 0
 }
 
-// A sum and then the bond of another bay and a bay that lies south of it or east of it.
+// A sum and then the bond of a bay and another, which lies north of it or west of it.
 fn with_edge(
     system: &System<'_>,
     layout: &[u32],
-    neighbours: Neighbours,
+    north_south: bool,
     other: usize,
     bay: usize,
     sum: f64,
 ) -> f64
-    ensures { result ≡ with_edge (system_of system.now) layout.now (is_north_south neighbours) other bay sum }
+    ensures { result ≡ with_edge (system_of system.now) layout.now north_south other bay sum }
 {
     let first = strand_at(layout, other);
     let second = strand_at(layout, bay);
-    sum + edge_beta_between(system, neighbours, first, second)
+    sum + edge_beta_between(system, north_south, first, second)
 }
 
 // A sum and then the bay's west bond; the first column has none.
@@ -50,7 +49,7 @@ fn with_west(system: &System<'_>, layout: &[u32], bay: usize, sum: f64) -> f64
     if in_first_column(system.sizes.cols, bay) {
         return sum;
     }
-    with_edge(system, layout, Neighbours::WestEast, bay - 1, bay, sum)
+    with_edge(system, layout, false, bay - 1, bay, sum)
 }
 
 // A sum and then the bay's north bond; the first row has none.
@@ -62,7 +61,7 @@ fn with_north(system: &System<'_>, layout: &[u32], bay: usize, sum: f64) -> f64
     if bay < cols {
         return sum;
     }
-    with_edge(system, layout, Neighbours::NorthSouth, bay - cols, bay, sum)
+    with_edge(system, layout, true, bay - cols, bay, sum)
 }
 
 // The listing sum.

@@ -37,7 +37,7 @@ fn glues_of_strand(registry: &Registry<'_>, s: usize) -> StrandGlues
     five_from(registry, (s - 1) * 5)
 }
 
-// Writes a strand's glues into the table, from place `at` on: fixed memory, the whole table is lent.
+// Writes a strand's glues into the table, from place `at` on.
 fn put_strand(table: &mut [u32], at: usize, strand: StrandGlues)
     requires { at + 5 ≤ length table.old }
     ensures { table.new ≡ take at table.old ++ (five_of strand ++ drop (at + 5) table.old) }

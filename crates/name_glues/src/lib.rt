@@ -17,7 +17,7 @@ use units::Refusal;
 pub struct GlueNames<'a> {
     pub names: Names<'a>,
     ghost readable: { GluesReadable (names_of names) },
-    // True of any slice, but not known of one inside a borrowed struct: with it a place computed from another is a usize.
+    // As any slice's length; a place computed from another stays a usize.
     ghost countable: { length names.present.now < 2 ^ 64 },
 }
 
@@ -87,7 +87,7 @@ impl<'a> Registry<'a> {
         }
     }
 
-    // The glue of entry i, 0 where it has no name: glue 0 stands for none already, so no Option.
+    // The glue of entry i, 0 where it has no name.
     pub fn glue_at(&self, i: usize) -> u32
         requires { i < length self.now.names.names.present.now }
         ensures { result ≡ glue_at (names_of self.now.names.names) self.now.bases.now self.now.count i }

@@ -25,8 +25,6 @@ pub struct KeyValues<'a> {
 }
 
 impl KeyValues<'_> {
-    // Slices of any length make a `KeyValues`, since their lengths are tested of one (`name_keys_lent`): so the methods ask by clauses.
-
     // What key k gives.
     fn value(&self, k: usize) -> GsOrSeq
         requires k_in_bounds { k < length self.now.kinds.now }

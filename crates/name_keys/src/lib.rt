@@ -16,7 +16,7 @@ pub enum RefOrPair {
     Pair(usize, usize),
 }
 
-// The two glues that a key joins, or nothing where a name is not registered. No Option of a pair: `Some((i, j))` says less than `Glues(i, j)`.
+// The two glues that a key joins, or nothing where a name is not registered.
 #[derive(Clone, Copy, Debug, PartialEq, Eq)]
 pub enum Joined {
     Glues(usize, usize),
@@ -33,8 +33,6 @@ pub struct KeyNames<'a> {
 }
 
 impl KeyNames<'_> {
-    // Lists of any length make a `KeyNames`, since their lengths are tested of one (`name_keys_lent`): so the methods ask by clauses.
-
     // The names of key k.
     fn names_at(&self, k: usize) -> RefOrPair
         requires { k < length self.now.paired.now }

@@ -26,8 +26,7 @@ fn tables_fit(glues: usize, scaffold: usize, bases: usize, strands: usize, bays:
     glues == strands * 5 && scaffold == bays && bases == BASE_NUMBERS
 }
 
-// What is refused before registering: a size or a length, then names that cannot be read. The sizes are no `bay_system::Sizes`:
-// that has a glue count, which registering finds. `glues`, `scaffold` and `bases` are the lengths of the lent tables.
+// What is refused before registering: a size or a length, then names that cannot be read.
 pub fn check_input(
     rows: usize,
     cols: usize,

@@ -38,8 +38,7 @@ fn register_names(
     Ok(list.count)
 }
 
-// Registers the glue names of a system: strand by strand, then the scaffold row by row. The answer is the count of bases. The sizes
-// are no `bay_system::Sizes`, which has a glue count, and the tables no `System`: they are still to be written.
+// Registers the glue names of a system: strand by strand, then the scaffold row by row. The answer is the count of bases.
 pub fn register(
     rows: usize,
     cols: usize,

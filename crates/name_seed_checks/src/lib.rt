@@ -22,8 +22,6 @@ pub struct SeedList<'a> {
 }
 
 impl SeedList<'_> {
-    // Places and names of any shape make a `SeedList`, since `seeds_by_name` tests one: so what reads it asks by clauses.
-
     // How many they are, by their rows and columns.
     pub fn count(&self) -> usize
         ensures { result ≡ seed_count (seed_list_of self.now) }

@@ -1,17 +1,16 @@
 // The run over a system that passed its tests: the tables are worked out once, then the ledger is filled.
-ghost use Rattle.std.specs.Prelude.{◌≡◌, ◌*◌, ◌≤◌, length, take, not};
+ghost use Rattle.std.specs.Prelude.{◌*◌, ◌≤◌, length, take};
 ghost use Rattle.units.specs.Limits.{most_strands};
 ghost use Rattle.bay_system.specs.System.{system_of};
 ghost use Rattle.bay_bonds.specs.Readable.{Readable};
-ghost use Rattle.bay_scan_order.specs.Scan.{by_rows, window};
-ghost use Rattle.run_tables.specs.Tables.{site_table, bond_table, ReadableBays};
+ghost use Rattle.bay_scan_order.specs.Scan.{window};
+ghost use Rattle.run_tables.specs.Tables.{site_table, ReadableBays};
 ghost use Rattle.ledger_fill.specs.Handed.{run_scan, Roomy};
 ghost use Rattle.run_least_layout.specs.Run.{table_scan};
 ghost use Rattle.run_system.specs.Steps.{OnBoard, Ran};
 
 use crate::tables::run_over;
 use bay_system::{Sizes, System};
-use energy_bays::Neighbours;
 use ledger_row_choice::{Bonds, PAIRS};
 use run_scan_tables::{MOST_BAYS, by_rows};
 use run_tables::{MOST_SITES, fill_bonds, fill_sites};
@@ -85,22 +84,6 @@ fn run_sites(
     )
 }
 
-// Writes the bonds to the bay of the previous major line, and those to the previous bay of the same line.
-fn fill_both(system: &System<'_>, major: &mut [f64], side: &mut [f64])
-    requires readable { Readable (system_of system.now) }
-    requires table_lens { (length major.old ≡ most_strands * most_strands) × (length side.old ≡ most_strands * most_strands) }
-    ensures major { let s = system_of system.now in major.new ≡ bond_table s (by_rows s.sizes.rows s.sizes.cols) }
-    ensures side { let s = system_of system.now in side.new ≡ bond_table s (not (by_rows s.sizes.rows s.sizes.cols)) }
-{
-    if by_rows(system.sizes.rows, system.sizes.cols) {
-        fill_bonds(system, Neighbours::NorthSouth, major);
-        fill_bonds(system, Neighbours::WestEast, side);
-    } else {
-        fill_bonds(system, Neighbours::WestEast, major);
-        fill_bonds(system, Neighbours::NorthSouth, side);
-    }
-}
-
 // Works out the bonds of all pairs of strands and the energies of the bays, each once, and runs.
 pub fn run_system(
     system: &System<'_>,
@@ -118,11 +101,13 @@ pub fn run_system(
         let k = table_scan s scan.now in
         Ran k s.sizes.rows s.sizes.cols result layout.old layout.new energies.old energies.new notes.old notes.new }
 {
+    let lines = by_rows(system.sizes.rows, system.sizes.cols);
     let mut bonds = Bonds {
         major: [0.0; PAIRS],
         side: [0.0; PAIRS],
     };
-    fill_both(system, &mut bonds.major, &mut bonds.side);
+    fill_bonds(system, lines, &mut bonds.major);
+    fill_bonds(system, !lines, &mut bonds.side);
     let mut sites = [0.0f64; MOST_SITES];
     run_sites(system, scan, &bonds, &mut sites, layout, energies, notes)
 }

@@ -4,7 +4,7 @@
 
 pub use bay_legal::allowed_tiles;
 pub use bay_lists::Constraints;
-pub use energy_bays::{Neighbours, edge_beta_between, site_beta_energy};
+pub use energy_bays::{edge_beta_between, site_beta_energy};
 pub use energy_listing_sum::state_beta_energy;
 pub use energy_state::state_g;
 pub use run_mfe::mfe_configuration;

@@ -69,8 +69,7 @@ pub fn position(set: u64, t: u32) -> u32
     }
 }
 
-// The first strand of the set at or after `from`, and 64 where there is none: 64 and no Option, since the
-// walks go on from that number.
+// The first strand of the set at or after `from`, and 64 where there is none.
 pub fn next(set: u64, from: u32) -> u32
     ensures { result ≡ next_of (has set) from 64 }
 {
@@ -88,7 +87,7 @@ pub fn is_empty(set: u64) -> bool
     set == 0
 }
 
-// The lowest strand of the set, and 64 where there is none, as `next` says it.
+// The lowest strand of the set, and 64 where there is none.
 pub fn first(set: u64) -> u32
     ensures { result ≡ next_of (has set) 0 64 }
 {

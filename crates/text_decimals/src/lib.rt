@@ -38,7 +38,7 @@ fn ratio(negative: bool, n: u64, k: usize) -> f64
     }
 }
 
-// How many bytes stand before the point, all of them where there is none: a count, so no Option.
+// How many bytes stand before the point, all of them where there is none.
 fn whole_length(text: &[u8]) -> usize
     ensures { result ≡ whole_length text.now }
 {

@@ -9,7 +9,7 @@ ghost use Rattle.text_energy.specs.Hundredths.{nearest_hundredth, pointed, energ
 
 use text_put::{put_float, put_number, put_text};
 
-// The nearest whole number of hundredths of an energy's size, and its sign, which a 0 has too: so no i64.
+// The nearest whole number of hundredths of an energy's size, and its sign.
 #[derive(Clone, Copy, Debug, PartialEq, Eq)]
 pub struct Hundredths {
     pub negative: bool,

@@ -1,6 +1,5 @@
 // The front of a slice by a count: what was read into it, or written. A count past the end gives
-// the whole slice, so that a caller has nothing to show; a byte past the end is 0 likewise:
-// who compares it with a sign need not ask whether it is there.
+// the whole slice, so that a caller has nothing to show; a byte past the end is 0 likewise.
 #![tactic(auto)]
 
 ghost use Rattle.std.specs.Prelude.{◌≡◌, min, get_or, take};

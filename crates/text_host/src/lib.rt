@@ -9,8 +9,7 @@ use std::fs;
 use std::fs::{File, Files};
 use std::io::{Error, ErrorKind, Result};
 
-// Puts an argument at the start of a lent slice and answers its length, 0 where it is missing or longer than the slice: no Option,
-// since such an argument counts as an empty one.
+// Puts an argument at the start of a lent slice and answers its length, 0 where it is missing or longer than the slice.
 pub fn arg(rt: &impl Env, place: usize, room: &mut [u8]) -> usize
     ensures { IsPrefixLen result room.new }
 {

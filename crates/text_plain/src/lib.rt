@@ -7,12 +7,11 @@ ghost use Rattle.text_plain.specs.Texts.{is_between, is_alone, is_second, is_two
 
 use text_fronts::byte_at;
 
-// The place of the first byte that is no part of a text, or the length where all are: no Option, since docs/PROMISES.md names it so.
+// The place of the first byte that is no part of a text, or the length where all are.
 pub fn first_stray(text: &[u8]) -> usize
     ensures { result ≡ first_stray text.now }
 {
     let mut i = 0;
-    // A `for` has one step; here it is as long as the character.
     while i < text.len() {
         let n = character_length(&text[i..]);
         if n == 0 {
@@ -40,7 +39,7 @@ fn has_mark(text: &[u8]) -> bool
     (byte_at(text, 0) == 0xEF) & ((byte_at(text, 1) == 0xBB) & (byte_at(text, 2) == 0xBF))
 }
 
-// How many bytes the character at the front of a text takes, 0 where none stands there: a count, by whose definition the theorems on texts are said.
+// How many bytes the character at the front of a text takes, 0 where none stands there.
 fn character_length(text: &[u8]) -> usize
     ensures { result ≡ character_length text.now }
 {

@@ -2,8 +2,7 @@
 //
 // Each `put_` function puts a text at the place `at`, leaves the rest of the slice as it is, and gives back the next place.
 // What does not fit is cut off, and the next place is then the slice's end: a run of these calls leaves the texts one after
-// the other, or as much of their front as has room. The slice and the place are two parameters and no writer's struct: that
-// were no plainer, since the contracts of all crates above are said of a slice and a place (`Put`).
+// the other, or as much of their front as has room.
 #![tactic(auto)]
 
 ghost use Rattle.std.specs.Prelude.{◌≡◌, cond};

@@ -109,7 +109,7 @@ pub fn check_kelvin(kelvin: f64) -> Result<(), Refusal>
     }
 }
 
-// Whether a number is from 1 to a limit: a name for a test that each size has.
+// Whether a number is from 1 to a limit.
 pub fn from_one_to(most: usize, n: usize) -> bool
     ensures { result ≡ from_one_to most n }
 {

@@ -75,7 +75,7 @@ impl Refusal {
         }
     }
 
-    // The first value that the rules print beside the number, 0 where there is none: the C call has a field for it, which is never empty.
+    // The first value that the rules print beside the number, 0 where there is none.
     pub fn first(self) -> usize
         ensures { result ≡ get_or (values_of self) 0 0 }
     {
@@ -92,7 +92,7 @@ impl Refusal {
         }
     }
 
-    // The second value, 0 where there is none, for the same reason.
+    // The second value, 0 where there is none.
     pub fn second(self) -> usize
         ensures { result ≡ get_or (values_of self) 1 0 }
     {

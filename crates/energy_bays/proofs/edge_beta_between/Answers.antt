@@ -9,3 +9,11 @@ use Rattle.energy_bays.proofs.edge_beta_between.Goals as goal
 pub returns-then-first-eq0 : goal.returns-then-first-eq0
 unfolding edge_energy of_bits decimal
 returns-then-first-eq0 c = grind (arith, common_steps)
+
+pub returns-then-north_south : goal.returns-then-north_south
+unfolding edge_energy
+returns-then-north_south c = grind (arith, common_steps)
+
+pub returns-else-north_south : goal.returns-else-north_south
+unfolding edge_energy
+returns-else-north_south c = grind (arith, common_steps)

@@ -5,7 +5,6 @@ use native.Mathlib.Omega.{arith}
 use lib.ListN.{length}
 use Rattle.units.specs.Limits.{most_strands}
 use Rattle.bay_system.specs.System.{system_of}
-use Rattle.energy_bays.specs.Neighbours.{is_north_south}
 use Rattle.run_tables.specs.Tables.{pair_energy}
 use Rattle.run_scan_tables.proofs.Written.{one_more, whole, none_yet}
 use Rattle.run_tables.proofs.bonds_of.fill_bonds.Goals as goal
@@ -15,10 +14,10 @@ loop-i-init c = none_yet _
 
 pub loop-i-preserved : goal.loop-i-preserved
 loop-i-preserved c = let a = c.args in
-    one_more (λ (j : ℕ). pair_energy (system_of a.system.now) (is_north_south a.neighbours) (j % most_strands) (j / most_strands)) c.loop-i.table c.loop-i.i c.loop-i.invariant (omega arith) c.pair_energy.ensures
+    one_more (λ (j : ℕ). pair_energy (system_of a.system.now) a.north_south (j % most_strands) (j / most_strands)) c.loop-i.table c.loop-i.i c.loop-i.invariant (omega arith) c.pair_energy.ensures
 
 pub returns : goal.returns
 returns c = let a = c.args in
     let long : length c.loop-i.table ≡ most_strands * most_strands = c.loop-i.auto.table ∙ c.requires.table_len in
-    whole (λ (j : ℕ). pair_energy (system_of a.system.now) (is_north_south a.neighbours) (j % most_strands) (j / most_strands)) c.loop-i.table c.loop-i.i (most_strands * most_strands) c.loop-i.invariant
+    whole (λ (j : ℕ). pair_energy (system_of a.system.now) a.north_south (j % most_strands) (j / most_strands)) c.loop-i.table c.loop-i.i (most_strands * most_strands) c.loop-i.invariant
     (omega arith) long
