@@ -20,9 +20,8 @@ def processor():
 
 
 def kit():
-    """The kit's own number, from the file beside its guides."""
-    with open(os.path.join(os.path.dirname(said("rt", "doc")), "..", "KIT-ID")) as text:
-        return text.readline().strip()
+    """The kit's own line."""
+    return said("rt", "version")
 
 
 def span(low, high):
