@@ -4,6 +4,8 @@ use Rattle.text_put.proofs.Putting.{put_as, then_put}
 use Rattle.case_answer_lines.proofs.Refusing.{no_values, one_value, two_values}
 use Rattle.case_answer_lines.proofs.refused.Goals as goal
 
+-- A variant without a value: the number ends the line. Those that have none share an arm,
+-- which is named after the first of them.
 pub returns-in-Size : goal.returns-in-Size
 returns-in-Size c = put_as (no_values c.args.refusal _ c.number.ensures (search rules)) c.put_value-at.ensures
 
