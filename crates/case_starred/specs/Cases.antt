@@ -3,8 +3,8 @@ use Rattle.std.specs.Prelude.{ℕ, ◌*◌, Bool, true, false, List, [], ◌∷�
 use Rattle.std.specs.Float.{nan, inf, fin, binary64}
 use Rattle.std.specs.Float.Ieee.{of_bits}
 use Rattle.units.specs.declared.refusal.Refusal.{Refusal}
-use Rattle.units.specs.declared.refusal.Refusal.TheVariants.{NoLegalStrand}
 use Rattle.units.specs.Decimals.{plus, minus}
+use Rattle.units.specs.Refusals.{number_of, values_of}
 use Rattle.dna_calls.specs.Starred.{Outcome as SequencesOutcome, Case as SequencesCase, starred as sequences_starred}
 use Rattle.bay_system.specs.System.{System}
 use Rattle.bay_lists.specs.Lists.{Constraints, lists, absent}
@@ -12,12 +12,13 @@ use Rattle.bay_legal_at.specs.Legal.{is_legal}
 use Rattle.run_least_layout.specs.Run.{run_need}
 use Rattle.run_mfe.specs.Run.{mfe_answer, layout_after, energies_after}
 
--- what a case is about
+-- what a case is about; a refusal by its number and values, as the rules print it
 pub data Outcome : Type 0 where
   sequence : SequencesOutcome → Outcome
   laid : List ℕ → Outcome
   held : List Float → Outcome
-  answered : Result Float Refusal → Outcome
+  answered : Float → Outcome
+  refused : (number : ℕ) → (values : List ℕ) → Outcome
   legal : Bool → Outcome
   needs : ℕ → Outcome
 
@@ -61,9 +62,13 @@ free = absent
 abbrev listed : List ℕ → Constraints
 listed tiles = lists (0 ∷ length tiles ∷ []) tiles
 
+abbrev of_answer : Result Float Refusal → Outcome
+of_answer (Ok energy) = answered energy
+of_answer (Err r) = refused (number_of r) (values_of r)
+
 -- the answer where the lent slices fit one bay with two rows, and what the call leaves in the lent layout, which held 7
 abbrev answer_of : System → Constraints → Outcome
-answer_of s c = answered (mfe_answer s c 1 2 2)
+answer_of s c = of_answer (mfe_answer s c 1 2 2)
 
 abbrev layout_of : System → Constraints → Outcome
 layout_of s c = laid (layout_after s c 2 2 (7 ∷ []))
@@ -75,17 +80,17 @@ energies_of s c = held (energies_after s c 1 2 (nan ∷ nan ∷ []))
 unfoldable pub layouts : List Case
 layouts =
     case (layout_of (one_bay (plus 1 1) (plus 0 1) (plus 0 1) []) free) (laid (0 ∷ []))
-    ∷ case (answer_of (one_bay (plus 1 1) (plus 0 1) (plus 0 1) []) free) (answered (Ok (of_bits binary64 0)))
+    ∷ case (answer_of (one_bay (plus 1 1) (plus 0 1) (plus 0 1) []) free) (answered (of_bits binary64 0))
     ∷ case (layout_of (one_bay (minus 1 1) (plus 0 1) (plus 0 1) []) free) (laid (1 ∷ []))
-    ∷ case (answer_of (one_bay (minus 1 1) (plus 0 1) (plus 0 1) []) free) (answered (Ok (fin true 1 (pos 0))))
+    ∷ case (answer_of (one_bay (minus 1 1) (plus 0 1) (plus 0 1) []) free) (answered (fin true 1 (pos 0)))
     ∷ case (legal (is_legal (one_bay (plus 0 1) (plus 1 1) (plus 0 1) []) free 0 1)) (legal true)
     ∷ case (energies_of (one_bay (plus 0 1) (plus 1 1) (plus 0 1) []) free) (held (of_bits binary64 0 ∷ of_bits binary64 0 ∷ []))
     ∷ case (layout_of (one_bay (plus 0 1) (plus 1 1) (plus 0 1) []) free) (laid (0 ∷ []))
-    ∷ case (answer_of (one_bay (plus 1 1) (plus 0 1) (inf true) (0 ∷ 0 ∷ 1 ∷ [])) free) (answered (Ok (inf false)))
+    ∷ case (answer_of (one_bay (plus 1 1) (plus 0 1) (inf true) (0 ∷ 0 ∷ 1 ∷ [])) free) (answered (inf false))
     ∷ case (layout_of (one_bay (minus 1 1) (plus 0 1) (plus 0 1) []) (listed [])) (laid (1 ∷ []))
-    ∷ case (answer_of (one_bay (minus 1 1) (plus 0 1) (plus 0 1) []) (listed [])) (answered (Ok (fin true 1 (pos 0))))
+    ∷ case (answer_of (one_bay (minus 1 1) (plus 0 1) (plus 0 1) []) (listed [])) (answered (fin true 1 (pos 0)))
     ∷ case (layout_of (one_bay (minus 1 1) (plus 0 1) (plus 0 1) []) (listed (0 ∷ []))) (laid (0 ∷ []))
-    ∷ case (answer_of (one_bay (minus 1 1) (plus 0 1) (plus 0 1) []) (listed (99 ∷ []))) (answered (Err (NoLegalStrand 0)))
+    ∷ case (answer_of (one_bay (minus 1 1) (plus 0 1) (plus 0 1) []) (listed (99 ∷ []))) (refused 7 (0 ∷ []))
     ∷ case (layout_of (one_bay (minus 1 1) (plus 0 1) (plus 0 1) []) (listed (99 ∷ []))) (laid (7 ∷ []))
     ∷ case (needs (run_need (two_strands 2 2) free)) (needs 14)
     ∷ case (needs (run_need (two_strands 2 3) free)) (needs 22)

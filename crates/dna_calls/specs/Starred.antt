@@ -4,18 +4,19 @@ use Rattle.std.specs.Float.{binary64}
 use Rattle.std.specs.Float.Ieee.{of_bits}
 use Rattle.units.specs.declared.BaseEnergy.{BaseEnergy}
 use Rattle.units.specs.declared.refusal.Refusal.{Refusal}
-use Rattle.units.specs.declared.refusal.Refusal.TheVariants.{LoopLength}
 use Rattle.units.specs.Decimals.{plus}
+use Rattle.units.specs.Refusals.{number_of, values_of}
 use Rattle.dna_letters.specs.Bases.{base_at}
 use Rattle.dna_mismatches.specs.Mismatches.{single_mismatch_penalty}
 use Rattle.dna_calls.specs.Hundredths.{string_dna_hundredths}
 use Rattle.dna_pairs.specs.Pair.{sequence_pair_dg_ds}
 
--- what a case is about
+-- what a case is about; a refusal by its number and values, as the rules print it
 pub data Outcome : Type 0 where
   penalty : Float → Outcome
-  pair : Result BaseEnergy Refusal → Outcome
-  hundredths : Result ℤ Refusal → Outcome
+  pair : BaseEnergy → Outcome
+  hundredths : ℤ → Outcome
+  refused : (number : ℕ) → (values : List ℕ) → Outcome
 
 -- what the definitions give, and what is printed
 pub record Case : Type 0 where
@@ -39,21 +40,29 @@ T = 84
 abbrev penalty_at : List ℕ → List ℕ → (i j : ℕ) → Outcome
 penalty_at a b i j = penalty (single_mismatch_penalty (base_at a i) (base_at a j) (base_at b i) (base_at b j))
 
+abbrev of_pair : Result BaseEnergy Refusal → Outcome
+of_pair (Ok energy) = pair energy
+of_pair (Err r) = refused (number_of r) (values_of r)
+
+abbrev of_hundredths : Result ℤ Refusal → Outcome
+of_hundredths (Ok count) = hundredths count
+of_hundredths (Err r) = refused (number_of r) (values_of r)
+
 -- a pair's answer with this ΔG, by its bits in the Rust's answer, and no ΔS
 abbrev answers : ℕ → Outcome
-answers bits = pair (Ok (record { dg = of_bits binary64 bits; ds = plus 0 1 }))
+answers bits = pair (record { dg = of_bits binary64 bits; ds = plus 0 1 })
 
 unfoldable pub starred : List Case
 starred =
     record { given = penalty_at (A ∷ G ∷ A ∷ []) (T ∷ T ∷ T ∷ []) 0 1; printed = penalty (plus 71 100) }
     ∷ record { given = penalty_at (A ∷ G ∷ A ∷ []) (T ∷ T ∷ T ∷ []) 1 2; printed = penalty (plus 34 100) }
-    ∷ record { given = pair (sequence_pair_dg_ds (A ∷ G ∷ A ∷ []) (T ∷ T ∷ T ∷ [])); printed = answers 0x3ff0_cccc_cccc_cccd }
-    ∷ record { given = pair (sequence_pair_dg_ds (A ∷ G ∷ G ∷ A ∷ []) (T ∷ T ∷ T ∷ T ∷ [])); printed = answers 0x3ff0_cccc_cccc_cccd }
+    ∷ record { given = of_pair (sequence_pair_dg_ds (A ∷ G ∷ A ∷ []) (T ∷ T ∷ T ∷ [])); printed = answers 0x3ff0_cccc_cccc_cccd }
+    ∷ record { given = of_pair (sequence_pair_dg_ds (A ∷ G ∷ G ∷ A ∷ []) (T ∷ T ∷ T ∷ T ∷ [])); printed = answers 0x3ff0_cccc_cccc_cccd }
     ∷ record {
-      given = pair (sequence_pair_dg_ds (A ∷ G ∷ G ∷ A ∷ A ∷ []) (T ∷ T ∷ T ∷ T ∷ T ∷ []));
-      printed = pair (Err (LoopLength 2));
+      given = of_pair (sequence_pair_dg_ds (A ∷ G ∷ G ∷ A ∷ A ∷ []) (T ∷ T ∷ T ∷ T ∷ T ∷ []));
+      printed = refused 14 (2 ∷ []);
     }
-    ∷ record { given = hundredths (string_dna_hundredths (A ∷ A ∷ [])); printed = hundredths (Ok (pos 101)) }
-    ∷ record { given = hundredths (string_dna_hundredths (G ∷ C ∷ [])); printed = hundredths (Ok (neg_ℤ (pos 28))) }
-    ∷ record { given = hundredths (string_dna_hundredths (A ∷ C ∷ [])); printed = hundredths (Ok (pos 57)) }
+    ∷ record { given = of_hundredths (string_dna_hundredths (A ∷ A ∷ [])); printed = hundredths (pos 101) }
+    ∷ record { given = of_hundredths (string_dna_hundredths (G ∷ C ∷ [])); printed = hundredths (neg_ℤ (pos 28)) }
+    ∷ record { given = of_hundredths (string_dna_hundredths (A ∷ C ∷ [])); printed = hundredths (pos 57) }
     ∷ []
