@@ -73,12 +73,19 @@ fn strand_names<'a>(text: &'a [u8], offsets: &'a [usize], present: &'a [u8]) -> 
     }
 }
 
-// Reads the tables of a system of known extent, and plans on.
+// Reads the tables of a system of known extent, and plans on. The tables stand before the first `?`: one that stood behind it would be zeroed twice.
 fn plan_extent(task: &Task<'_>, sheets: &Sheets<'_>, extent: &Extent) -> Result<(), Told> {
     let mut text = [0u8; 16385];
     let mut strand_glues = [0u32; 320];
     let mut scaffold = [0u32; 1024];
     let mut bases = [0usize; 254];
+    let mut delta_g = [0.0f64; 65025];
+    let mut entropy = [0.0f64; 65025];
+    let mut name_text = [0u8; 16385];
+    let mut name_offsets = [0usize; 65];
+    let mut present = [0u8; 64];
+    let mut logs = [0.0f64; 64];
+    let mut seeds = [0u32; 3072];
     let glues = register(
         task.folder,
         sheets,
@@ -88,8 +95,6 @@ fn plan_extent(task: &Task<'_>, sheets: &Sheets<'_>, extent: &Extent) -> Result<
         &mut scaffold,
         &mut bases,
     )?;
-    let mut delta_g = [0.0f64; 65025];
-    let mut entropy = [0.0f64; 65025];
     fill_matrices(
         task.folder,
         sheets.keys,
@@ -100,9 +105,6 @@ fn plan_extent(task: &Task<'_>, sheets: &Sheets<'_>, extent: &Extent) -> Result<
         &mut entropy,
     )?;
     let strands = extent.records + 1;
-    let mut name_text = [0u8; 16385];
-    let mut name_offsets = [0usize; 65];
-    let mut present = [0u8; 64];
     let end = read_names(
         task.folder,
         sheets.strands,
@@ -116,9 +118,7 @@ fn plan_extent(task: &Task<'_>, sheets: &Sheets<'_>, extent: &Extent) -> Result<
         front(&name_offsets, strands + 1),
         front(&present, strands),
     );
-    let mut logs = [0.0f64; 64];
     read_logs(task.folder, sheets.strands, extent.records, &mut logs)?;
-    let mut seeds = [0u32; 3072];
     let seed_numbers = read_seeds(task.folder, sheets.seeds, extent, &names, &mut seeds)?;
     let kelvin = read_temperature(task.folder, sheets.temperature)?;
     let system = System {

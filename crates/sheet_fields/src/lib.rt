@@ -72,8 +72,10 @@ pub fn field_or_empty(text: &[u8], at: usize) -> Field
 fn bare_field(text: &[u8], at: usize) -> Option<Field>
     ensures { result ≡ field_answer (moved at (bare_field (drop at text.now))) }
 {
-    let to = at + plain_length(rest(text, at));
-    let ending = ending_of(rest(text, to))?;
+    let field = rest(text, at);
+    let length = plain_length(field);
+    let ending = ending_of(&field[length..])?;
+    let to = at + length;
     Some(Field {
         more: ending.more,
         from: at,
