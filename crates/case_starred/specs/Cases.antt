@@ -1,11 +1,9 @@
 -- The rules' starred cases, all of them, as one table of what the definitions give and what the rules print: sequences first, then layouts. Assumes nothing.
-use Rattle.std.specs.Prelude.{ℕ, ◌*◌, Bool, true, false, List, [], ◌∷◌, ◌++◌, map, Result, Ok, Err, pos, Float, length, replicate}
+use Rattle.std.specs.Prelude.{ℕ, ◌*◌, Bool, true, false, List, [], ◌∷◌, ◌++◌, map, pos, Float, length, replicate}
 use Rattle.std.specs.Float.{nan, inf, fin, binary64}
 use Rattle.std.specs.Float.Ieee.{of_bits}
-use Rattle.units.specs.declared.refusal.Refusal.{Refusal}
 use Rattle.units.specs.Decimals.{plus, minus}
-use Rattle.units.specs.Refusals.{number_of, values_of}
-use Rattle.dna_calls.specs.Starred.{Outcome as SequencesOutcome, Case as SequencesCase, starred as sequences_starred}
+use Rattle.dna_calls.specs.Starred.{told, Outcome as SequencesOutcome, Case as SequencesCase, starred as sequences_starred}
 use Rattle.bay_system.specs.System.{System}
 use Rattle.bay_lists.specs.Lists.{Constraints, lists, absent}
 use Rattle.bay_legal_at.specs.Legal.{is_legal}
@@ -62,13 +60,9 @@ free = absent
 abbrev listed : List ℕ → Constraints
 listed tiles = lists (0 ∷ length tiles ∷ []) tiles
 
-abbrev of_answer : Result Float Refusal → Outcome
-of_answer (Ok energy) = answered energy
-of_answer (Err r) = refused (number_of r) (values_of r)
-
 -- the answer where the lent slices fit one bay with two rows, and what the call leaves in the lent layout, which held 7
 abbrev answer_of : System → Constraints → Outcome
-answer_of s c = of_answer (mfe_answer s c 1 2 2)
+answer_of s c = told answered refused (mfe_answer s c 1 2 2)
 
 abbrev layout_of : System → Constraints → Outcome
 layout_of s c = laid (layout_after s c 2 2 (7 ∷ []))

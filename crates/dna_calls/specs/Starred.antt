@@ -40,13 +40,17 @@ T = 84
 abbrev penalty_at : List ℕ → List ℕ → (i j : ℕ) → Outcome
 penalty_at a b i j = penalty (single_mismatch_penalty (base_at a i) (base_at a j) (base_at b i) (base_at b j))
 
-abbrev of_pair : Result BaseEnergy Refusal → Outcome
-of_pair (Ok energy) = pair energy
-of_pair (Err r) = refused (number_of r) (values_of r)
+-- an answer as one of two outcomes: what a value is about, or a refusal by its number and values
+abbrev pub told : {A O : Type 0} → (answer : A → O) → (refusal : ℕ → List ℕ → O) → Result A Refusal → O
+told answer refusal (Ok value) = answer value
+told answer refusal (Err r) = refusal (number_of r) (values_of r)
 
-abbrev of_hundredths : Result ℤ Refusal → Outcome
-of_hundredths (Ok count) = hundredths count
-of_hundredths (Err r) = refused (number_of r) (values_of r)
+-- what the calls answer on two sequences, and on one in hundredths
+abbrev of_pair : (a b : List ℕ) → Outcome
+of_pair a b = told pair refused (sequence_pair_dg_ds a b)
+
+abbrev of_hundredths : (dna : List ℕ) → Outcome
+of_hundredths dna = told hundredths refused (string_dna_hundredths dna)
 
 -- a pair's answer with this ΔG, by its bits in the Rust's answer, and no ΔS
 abbrev answers : ℕ → Outcome
@@ -56,13 +60,13 @@ unfoldable pub starred : List Case
 starred =
     record { given = penalty_at (A ∷ G ∷ A ∷ []) (T ∷ T ∷ T ∷ []) 0 1; printed = penalty (plus 71 100) }
     ∷ record { given = penalty_at (A ∷ G ∷ A ∷ []) (T ∷ T ∷ T ∷ []) 1 2; printed = penalty (plus 34 100) }
-    ∷ record { given = of_pair (sequence_pair_dg_ds (A ∷ G ∷ A ∷ []) (T ∷ T ∷ T ∷ [])); printed = answers 0x3ff0_cccc_cccc_cccd }
-    ∷ record { given = of_pair (sequence_pair_dg_ds (A ∷ G ∷ G ∷ A ∷ []) (T ∷ T ∷ T ∷ T ∷ [])); printed = answers 0x3ff0_cccc_cccc_cccd }
+    ∷ record { given = of_pair (A ∷ G ∷ A ∷ []) (T ∷ T ∷ T ∷ []); printed = answers 0x3ff0_cccc_cccc_cccd }
+    ∷ record { given = of_pair (A ∷ G ∷ G ∷ A ∷ []) (T ∷ T ∷ T ∷ T ∷ []); printed = answers 0x3ff0_cccc_cccc_cccd }
     ∷ record {
-      given = of_pair (sequence_pair_dg_ds (A ∷ G ∷ G ∷ A ∷ A ∷ []) (T ∷ T ∷ T ∷ T ∷ T ∷ []));
+      given = of_pair (A ∷ G ∷ G ∷ A ∷ A ∷ []) (T ∷ T ∷ T ∷ T ∷ T ∷ []);
       printed = refused 14 (2 ∷ []);
     }
-    ∷ record { given = of_hundredths (string_dna_hundredths (A ∷ A ∷ [])); printed = hundredths (pos 101) }
-    ∷ record { given = of_hundredths (string_dna_hundredths (G ∷ C ∷ [])); printed = hundredths (neg_ℤ (pos 28)) }
-    ∷ record { given = of_hundredths (string_dna_hundredths (A ∷ C ∷ [])); printed = hundredths (pos 57) }
+    ∷ record { given = of_hundredths (A ∷ A ∷ []); printed = hundredths (pos 101) }
+    ∷ record { given = of_hundredths (G ∷ C ∷ []); printed = hundredths (neg_ℤ (pos 28)) }
+    ∷ record { given = of_hundredths (A ∷ C ∷ []); printed = hundredths (pos 57) }
     ∷ []
