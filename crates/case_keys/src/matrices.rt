@@ -23,8 +23,11 @@ pub(crate) fn put_matrices(out: &mut [u8], side: usize, delta_g: &[f64], entropy
     if side == 0 {
         return next;
     }
-    for (k, (dg, ds)) in delta_g.iter().zip(entropy.iter()).enumerate() {
-        next = put_cell(out, next, k / side, k % side, *dg, *ds);
+    let rows = delta_g.chunks(side).zip(entropy.chunks(side));
+    for (i, (delta_g_row, entropy_row)) in rows.enumerate() {
+        for (j, (dg, ds)) in delta_g_row.iter().zip(entropy_row.iter()).enumerate() {
+            next = put_cell(out, next, i, j, *dg, *ds);
+        }
     }
     next
 }
